@@ -1,0 +1,5 @@
+-- Laws of the words in specs/.
+pub mod Truth
+pub mod Picks
+pub mod All
+pub mod Count

@@ -1,0 +1,126 @@
+// A set of buffer ids 1 to 256 as four words of marks: bit (id - 1) % 64 of word (id - 1) / 64 is set exactly when id is a member.
+// The contracts say each result by membership: `memberOf s b`, and `setOf p`, the set of the ids that p holds of.
+ghost use mathlib.Core.Path.{_≡_};
+ghost use Prim.Native.Nat.{_-_, _^_};
+ghost use lib.Dec.{ltb};
+ghost use Rattle.idset.specs.Members.{memberOf, noIds, withOf, withoutOf, sizeOf, nextOf, withinOf};
+
+pub struct IdSet {
+    pub words: [u64; 4],
+}
+
+// Whether no mark of the word that follows id `base` stands above id `limit`. A shift by the word's width or more has no meaning
+// to the machine, so the two ends are tested first.
+fn clear_above(word: u64, base: u32, limit: u32) -> bool
+    ensures { λ r. ⌜ r ≡ ltb word (2 ^ (limit - base)) ⌝ }
+{
+    if limit <= base {
+        return word == 0;
+    }
+    let room = limit - base;
+    if 64 <= room { true } else { word >> room == 0 }
+}
+
+impl IdSet {
+    // No members.
+    pub fn empty() -> IdSet
+        ensures { λ r. ⌜ r ≡ noIds ⌝ }
+    {
+        IdSet { words: [0; 4] }
+    }
+
+    // Whether id is a member: never for 0 and above 256.
+    pub fn has(self, id: u32) -> bool
+        ensures { λ r. ⌜ r ≡ memberOf self id ⌝ }
+    {
+        if id < 1 {
+            return false;
+        }
+        if 256 < id {
+            return false;
+        }
+        let at = id - 1;
+        let i = (at / 64) as usize;
+        let w = self.words[i];
+        ((w >> (at % 64)) & 1) == 1
+    }
+
+    // The set with id as a member. 0 and what is above 256 change nothing.
+    pub fn with(mut self, id: u32) -> IdSet
+        ensures { λ r. ⌜ r ≡ withOf self id ⌝ }
+    {
+        if id < 1 {
+            return self;
+        }
+        if 256 < id {
+            return self;
+        }
+        let at = id - 1;
+        let i = (at / 64) as usize;
+        let w = self.words[i];
+        self.words[i] = w | (1u64 << (at % 64));
+        self
+    }
+
+    // The set without id.
+    pub fn without(mut self, id: u32) -> IdSet
+        ensures { λ r. ⌜ r ≡ withoutOf self id ⌝ }
+    {
+        if id < 1 {
+            return self;
+        }
+        if 256 < id {
+            return self;
+        }
+        let at = id - 1;
+        let i = (at / 64) as usize;
+        let w = self.words[i];
+        self.words[i] = w & !(1u64 << (at % 64));
+        self
+    }
+
+    // How many members there are.
+    pub fn size(self) -> u32
+        ensures { λ r. ⌜ r ≡ sizeOf self ⌝ }
+    {
+        u64::count_ones(self.words[0])
+            + u64::count_ones(self.words[1])
+            + u64::count_ones(self.words[2])
+            + u64::count_ones(self.words[3])
+    }
+
+    // The least member above `after`, or 0 where there is none.
+    pub fn next(self, after: u32) -> u32
+        ensures { λ r. ⌜ r ≡ nextOf self after ⌝ }
+    {
+        if 256 <= after {
+            return 0;
+        }
+        let first = (after / 64) as usize;
+        let w = self.words[first] >> (after % 64);
+        if w != 0 {
+            return after + u64::trailing_zeros(w) + 1;
+        }
+        let mut base = (after / 64 + 1) * 64;
+        while base < 256 {
+            let i = (base / 64) as usize;
+            let v = self.words[i];
+            if v != 0 {
+                return base + u64::trailing_zeros(v) + 1;
+            }
+            base += 64;
+        }
+        0
+    }
+
+    // Whether every member is at most limit; within 0 a set is empty. No branch depends on the words.
+    pub fn within(self, limit: u32) -> bool
+        ensures { λ r. ⌜ r ≡ withinOf self limit ⌝ }
+    {
+        let a = clear_above(self.words[0], 0, limit);
+        let b = clear_above(self.words[1], 64, limit);
+        let c = clear_above(self.words[2], 128, limit);
+        let d = clear_above(self.words[3], 192, limit);
+        a & b & c & d
+    }
+}

@@ -1,0 +1,99 @@
+-- A pool that is made is the paper's fresh pool, and sound; the all-zero record of a refused make is not sound. Assumes nothing.
+use mathlib.Core.Path.{_≡_, refl, sym, ap, ap₂, _∙_}
+use mathlib.Core.Bool.{Bool, true, false, _&&_, _||_, or-true}
+use mathlib.Core.List.{[], _∷_}
+use Prim.Native.Nat.{ℕ, zero, suc, _-_, _<_}
+use native.Mathlib.Omega.{arith}
+use lib.Dec.{leb, ltb}
+use lib.ListN.{getD, replicate, getD-replicate}
+use borrow.Author.Tests.{le-leb, leb-true, lt-ltb}
+use Rattle.basics.specs.Pick.{unless}
+use Rattle.basics.specs.Among.{among}
+use Rattle.basics.proofs.All.{all-of}
+use Rattle.basics.proofs.Truth.{each}
+use Rattle.idset.specs.declared.IdSet.{IdSet}
+use Rattle.idset.specs.Members.{memberOf, noIds, withinOf}
+use Rattle.idset.proofs.Members.{member-none}
+use Rattle.idset.proofs.Within.{within-all}
+use Rattle.worker.specs.Registers.{noWorker}
+use Rattle.pool.specs.Answers.{answering, accepted}
+use Rattle.pool.specs.Record.{setAt, blank}
+use Rattle.pool.specs.Sound.{inRange, guardsBeyond, buffersBeyond, workersBeyond, beyondSound, kindsSound, idsSound, registersSound, soundOf}
+use Rattle.pool.specs.Make.{makeOf, Fresh}
+
+pub made : (w g b : ℕ) → inRange w g b ≡ true → makeOf w g b ≡ answering accepted (blank w g b)
+unfolding makeOf unless
+made w g b h = rw h
+
+-- an entry of a repeated array, and what stands past its end
+module _ {A : Type 0} where
+  repeated : (n i : ℕ) (a : A) → getD (replicate n a) i a ≡ a
+  repeated zero i a = refl
+  repeated (suc n) zero a = refl
+  repeated (suc n) (suc i) a = repeated n i a
+
+zeros : (n i : ℕ) → _≡_ {A = ℕ} (getD (replicate n 0) i 0) 0
+zeros n i = repeated n i 0
+
+set-of-blank : (w g b k : ℕ) → k < 8 → setAt (blank w g b) k ≡ noIds
+set-of-blank w g b k h = getD-replicate 8 k noIds (record { words = [] }) h
+
+pub blank-fresh : (w g b : ℕ) → Fresh w g b (blank w g b)
+blank-fresh w g b =
+    record {
+      workers = refl;
+      guards = refl;
+      buffers = refl;
+      lowest = refl;
+      untaken = λ i. repeated 32 i false;
+      unemployed = λ i. zeros 32 i;
+      unposted = λ i. zeros 32 i;
+      unused = λ i. ap₂ (λ (x y : ℕ). record { id = x; version = y }) (zeros 32 i) (zeros 32 i);
+      free = λ id. zeros 256 (id - 1);
+      idle = λ k. repeated 8 k noWorker;
+      empty = λ k id h. ap (λ (s : IdSet). memberOf s id) (set-of-blank w g b k h) ∙ member-none id;
+    }
+
+none-within : (a : ℕ) → withinOf noIds a ≡ true
+none-within a = within-all noIds a (λ b m. absurd (let z : _≡_ {A = Bool} false true = sym (member-none b) ∙ m in let n : _≡_ {A = ℕ} 0 1 = cc in omega arith))
+
+or-right : (t x : Bool) → x ≡ true → (t || x) ≡ true
+or-right t x e = ap (λ (y : Bool). t || y) e ∙ or-true t
+
+module _ (w g b : ℕ) (h : inRange w g b ≡ true) where
+  some : ltb 0 g ≡ true
+  some = lt-ltb 0 g (leb-true 1 g (each (leb 1 w) (leb w 8 ∷ leb 1 g ∷ leb g 32 ∷ leb 1 b ∷ leb b 256 ∷ []) h .1 .1 .0))
+
+  made-beyond : beyondSound (blank w g b) ≡ true
+  unfolding beyondSound
+  made-beyond =
+      ap₂ _&&_
+      (ap₂ _&&_
+      (all-of 32 (guardsBeyond (blank w g b)) (λ i l. or-right (ltb i g) _ (rw (repeated 32 i false, zeros 32 i))))
+      (all-of 256 (buffersBeyond (blank w g b)) (λ k l. or-right (ltb k b) _ (rw (zeros 256 (suc k - 1))))))
+      (all-of 8 (workersBeyond (blank w g b)) (λ k l. or-right (ltb k w) _ (rw (repeated 8 k noWorker, set-of-blank w g b k l) (none-within 0))))
+
+  made-kinds : kindsSound (blank w g b) ≡ true
+  unfolding kindsSound among
+  made-kinds =
+      ap₂ _&&_
+      (ap₂ _&&_ (all-of 32 _ (λ i l. rw (zeros 32 i) (le-leb 0 w (omega arith)))) (all-of 256 _ (λ k l. rw (zeros 256 (suc k - 1)))))
+      (all-of 8 _ (λ k l. rw (repeated 8 k noWorker)))
+
+  made-ids : idsSound (blank w g b) ≡ true
+  unfolding idsSound
+  made-ids =
+      let low : leb 0 b ≡ true = le-leb 0 b (omega arith) in
+      ap₂ _&&_ (all-of 32 _ (λ i l. rw (zeros 32 i, low))) (all-of 8 _ (λ k l. rw (repeated 8 k noWorker, set-of-blank w g b k l, low) (none-within b)))
+
+  made-registers : registersSound (blank w g b) ≡ true
+  unfolding registersSound
+  made-registers = all-of 8 _ (λ k l. rw (repeated 8 k noWorker, some))
+
+  pub made-sound : soundOf (blank w g b) ≡ true
+  unfolding soundOf
+  made-sound = ap₂ _&&_ (ap₂ _&&_ (ap₂ _&&_ (ap₂ _&&_ (ap₂ _&&_ h some) made-beyond) made-kinds) made-ids) made-registers
+
+pub zero-not-sound : soundOf (blank 0 0 0) ≡ false
+unfolding soundOf
+zero-not-sound = refl

@@ -1,0 +1,93 @@
+-- The scans of the soundness test make up the rules, in whatever order each is asked. Assumes nothing.
+use mathlib.Core.Path.{_≡_, ap, _∙_}
+use mathlib.Core.Bool.{Bool, not, _&&_, _||_}
+use mathlib.Core.List.{List}
+use Prim.Native.Nat.{ℕ, suc}
+use native.Mathlib.Omega.{arith}
+use lib.Dec.{eqb, leb, ltb}
+use lib.ListN.{getD}
+use Rattle.basics.specs.Below.{allBelow}
+use Rattle.basics.proofs.Truth.{reorder}
+use Rattle.basics.proofs.All.{all-and, all-or-and, all-cong}
+use Rattle.pool.specs.declared.Pool.{Pool}
+use Rattle.pool.specs.Record.{takenAt, employerAt, postedAt, slotAt, stateOf, workerAt, setAt}
+use Rattle.pool.specs.Sound.{countsSound, guardsBeyond, buffersBeyond, workersBeyond, beyondSound, isLabel, kindsSound, workerIds, idsSound, registersIn, registersSound, soundOf}
+use Rattle.pool.specs.Scans.{zeroFrom, fits, untakenFrom, workerFitsAt}
+
+abbrev most : List ℕ → ℕ → ℕ → Bool
+most xs limit k = leb (getD xs k 0) limit
+
+fits-two : (n : ℕ) (xs : List ℕ) (limit count : ℕ) → allBelow n (fits xs limit count) ≡ (allBelow n (most xs limit) && allBelow n (zeroFrom xs count))
+fits-two n xs limit count = all-and n (most xs limit) (zeroFrom xs count)
+
+module _ (p : Pool) where
+  abbrev used : ℕ → Bool
+  used k = ltb k (p .g)
+
+  guards-beyond : allBelow 32 (guardsBeyond p)
+      ≡ (allBelow 32 (untakenFrom (p .taken) (p .g)) && allBelow 32 (zeroFrom (p .employer) (p .g)) && allBelow 32 (zeroFrom (p .posted) (p .g))
+      && allBelow 32 (zeroFrom (p .«slot_id») (p .g)) && allBelow 32 (zeroFrom (p .«slot_version») (p .g)))
+  guards-beyond =
+      all-or-and 32 used (λ i. not (takenAt p i) && eqb (employerAt p i) 0 && eqb (postedAt p i) 0 && eqb (slotAt p i .id) 0) (λ i. eqb (slotAt p i .version) 0)
+      ∙ ap (λ (t : Bool). t && allBelow 32 (zeroFrom (p .«slot_version») (p .g)))
+      (all-or-and 32 used (λ i. not (takenAt p i) && eqb (employerAt p i) 0 && eqb (postedAt p i) 0) (λ i. eqb (slotAt p i .id) 0)
+      ∙ ap (λ (t : Bool). t && allBelow 32 (zeroFrom (p .«slot_id») (p .g)))
+      (all-or-and 32 used (λ i. not (takenAt p i) && eqb (employerAt p i) 0) (λ i. eqb (postedAt p i) 0)
+      ∙ ap (λ (t : Bool). t && allBelow 32 (zeroFrom (p .posted) (p .g)))
+      (all-or-and 32 used (λ i. not (takenAt p i)) (λ i. eqb (employerAt p i) 0))))
+
+  -- entry k of the states is that of buffer k + 1
+  entry : (k : ℕ) → getD (p .states) k 0 ≡ stateOf p (suc k)
+  entry k = ap (λ (n : ℕ). getD (p .states) n 0) (omega arith)
+
+  buffers-beyond : allBelow 256 (zeroFrom (p .states) (p .b)) ≡ allBelow 256 (buffersBeyond p)
+  buffers-beyond = all-cong 256 (zeroFrom (p .states) (p .b)) (buffersBeyond p) (λ k l. ap (λ (x : ℕ). ltb k (p .b) || eqb x 0) (entry k))
+
+  states-most : allBelow 256 (most (p .states) 2) ≡ allBelow 256 (λ k. leb (stateOf p (suc k)) 2)
+  states-most = all-cong 256 (most (p .states) 2) (λ k. leb (stateOf p (suc k)) 2) (λ k l. ap (λ (x : ℕ). leb x 2) (entry k))
+
+  abbrev label : ℕ → Bool
+  label k = isLabel (workerAt p k .label)
+
+  abbrev ids : ℕ → Bool
+  ids k = workerIds (p .b) (workerAt p k) (setAt p k)
+
+  abbrev registers : ℕ → Bool
+  registers k = registersIn (p .g) (workerAt p k)
+
+  workers-four : allBelow 8 (workerFitsAt (p .w) (p .g) (p .b) (p .workers) (p .sets))
+      ≡ (allBelow 8 (workersBeyond p) && allBelow 8 label && allBelow 8 ids && allBelow 8 registers)
+  workers-four =
+      all-and 8 (λ k. workersBeyond p k && label k && ids k) registers
+      ∙ ap (λ (t : Bool). t && allBelow 8 registers)
+      (all-and 8 (λ k. workersBeyond p k && label k) ids
+      ∙ ap (λ (t : Bool). t && allBelow 8 ids) (all-and 8 (workersBeyond p) label))
+
+reordered : (c t e₀ e p₀ p s₀ s v₀ b₀ b w₀ l i r : Bool)
+    → (c && t && (e && e₀) && (p && p₀) && (s && s₀) && v₀ && (b && b₀) && (w₀ && l && i && r))
+    ≡ (c && ((t && e₀ && p₀ && s₀ && v₀) && b₀ && w₀) && (e && b && l) && ((p && s) && i) && r)
+reordered c t e₀ e p₀ p s₀ s v₀ b₀ b w₀ l i r = simp reorder
+
+pub scanned : (p : Pool)
+    → (countsSound p && allBelow 32 (untakenFrom (p .taken) (p .g)) && allBelow 32 (fits (p .employer) (p .w) (p .g))
+    && allBelow 32 (fits (p .posted) (p .b) (p .g)) && allBelow 32 (fits (p .«slot_id») (p .b) (p .g))
+    && allBelow 32 (zeroFrom (p .«slot_version») (p .g)) && allBelow 256 (fits (p .states) 2 (p .b))
+    && allBelow 8 (workerFitsAt (p .w) (p .g) (p .b) (p .workers) (p .sets))) ≡ soundOf p
+unfolding soundOf beyondSound kindsSound idsSound registersSound
+scanned p =
+    rw (fits-two 32 (p .employer) (p .w) (p .g), fits-two 32 (p .posted) (p .b) (p .g), fits-two 32 (p .«slot_id») (p .b) (p .g), fits-two 256 (p .states) 2 (p .b), buffers-beyond p, states-most p, workers-four p, guards-beyond p, all-and 32 (most (p .posted) (p .b)) (most (p .«slot_id») (p .b)))
+    (reordered (countsSound p)
+    (allBelow 32 (untakenFrom (p .taken) (p .g)))
+    (allBelow 32 (zeroFrom (p .employer) (p .g)))
+    (allBelow 32 (most (p .employer) (p .w)))
+    (allBelow 32 (zeroFrom (p .posted) (p .g)))
+    (allBelow 32 (most (p .posted) (p .b)))
+    (allBelow 32 (zeroFrom (p .«slot_id») (p .g)))
+    (allBelow 32 (most (p .«slot_id») (p .b)))
+    (allBelow 32 (zeroFrom (p .«slot_version») (p .g)))
+    (allBelow 256 (buffersBeyond p))
+    (allBelow 256 (λ k. leb (stateOf p (suc k)) 2))
+    (allBelow 8 (workersBeyond p))
+    (allBelow 8 (label p))
+    (allBelow 8 (ids p))
+    (allBelow 8 (registers p)))

@@ -1,0 +1,58 @@
+-- `pool::sound::fit` meets its contract. Assumes nothing.
+use borrow.Author.Needs.{needs}
+use Prim.Native.Nat.{_≤_, _-_}
+use mathlib.Core.Path.{_≡_}
+use Rattle.basics.specs.Below.{allBelow}
+use Rattle.basics.proofs.All.{scans, all-done}
+use Rattle.pool.specs.Scans.{fits}
+use Rattle.pool.proofs.sound.fit.Statement.{statement}
+use Rattle.pool.proofs.sound.fit.Tie as tie
+
+abbrev Inv-loop : tie.InvT-loop
+Inv-loop xs limit count n ok₀ k₀ ok k = (k ≤ 32) × (ok ≡ allBelow k (fits xs limit count))
+
+abbrev μ-loop : tie.MeasureT-loop
+μ-loop xs limit count n ok₀ k₀ ok k = 32 - k
+
+loop-holds : tie.Need-loop-holds Inv-loop μ-loop
+loop-holds c = search (needs, scans)
+
+mul-ok : tie.Need-mul-ok Inv-loop μ-loop
+mul-ok c = search needs
+
+element-copy-out-ok : tie.Need-element-copy-out-ok Inv-loop μ-loop
+element-copy-out-ok c = search needs
+
+mul-ok-2 : tie.Need-mul-ok-2 Inv-loop μ-loop
+mul-ok-2 c = search needs
+
+element-copy-out-ok-2 : tie.Need-element-copy-out-ok-2 Inv-loop μ-loop
+element-copy-out-ok-2 c = search needs
+
+add-k : tie.Need-add-k Inv-loop μ-loop
+add-k c = search needs
+
+loop-less : tie.Need-loop-less Inv-loop μ-loop
+loop-less c = search needs
+
+loop-again : tie.Need-loop-again Inv-loop μ-loop
+loop-again c = search (needs, scans)
+
+returns : tie.Need-returns Inv-loop μ-loop
+returns c = all-done _ (c .before .loop .inv .1) (search needs)
+
+pub fit-spec : {M : Type 1} → statement M
+fit-spec =
+    tie.close
+    (tie.spec
+    Inv-loop
+    μ-loop
+    loop-holds
+    mul-ok
+    element-copy-out-ok
+    mul-ok-2
+    element-copy-out-ok-2
+    add-k
+    loop-less
+    loop-again
+    returns)

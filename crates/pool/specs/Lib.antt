@@ -1,0 +1,6 @@
+-- What a reader must believe of the pool: the record, the answers in the paper's numbers, when a record is sound, and each call.
+pub mod Record
+pub mod Answers
+pub mod Sound
+pub mod Make
+pub mod Scans

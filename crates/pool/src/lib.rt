@@ -1,0 +1,74 @@
+// The pool engine. One record goes into each call by value and comes back beside the answer, so whoever holds a pool decides which
+// call comes next. Every call takes any record and any arguments; what is wrong with them is answered by a refusal, and then nothing
+// has changed.
+mod answers;
+mod make;
+mod sound;
+
+use idset::IdSet;
+use worker::Worker;
+
+// What callers name. Three structs, so that none is taken for another.
+pub struct WorkerNo(pub u32);
+
+pub struct GuardNo(pub u32);
+
+pub struct BufferId(pub u32);
+
+// Labels, states and employers are plain numbers: a damaged record can be written down too. Guard i is entry i of its arrays, buffer id
+// is entry id - 1 of the states, and worker no is entry no - 1 of the workers and of the sets.
+pub struct Pool {
+    pub w: u32,
+    pub g: u32,
+    pub b: u32,
+    pub maxg: u32,
+    pub taken: [bool; 32],
+    pub employer: [u32; 32],
+    pub posted: [u32; 32],
+    pub slot_id: [u32; 32],
+    pub slot_version: [u32; 32],
+    pub states: [u8; 256],
+    pub workers: [Worker; 8],
+    pub sets: [IdSet; 8],
+}
+
+pub enum Refusal {
+    SizesOutOfRange,
+    NotSound,
+    NoSuchWorker,
+    WorkerNotIdle,
+    WorkerIdle,
+    NoSuchGuard,
+    GuardNotEmployed,
+    GuardPosted,
+    NoSuchBuffer,
+    BufferRepeated,
+    BufferInWrongState,
+    VersionsUsedUp,
+    ListTooShort,
+    MemberNotLeaving,
+}
+
+pub enum Answer {
+    Accepted,
+    Yes,
+    No,
+    // A label that the worker now stands at.
+    At(u32),
+    Hired(GuardNo),
+    NoneFound,
+    Fired,
+    Posted,
+    // How many ids were handed back.
+    Back(u32),
+    Count(u32),
+    Clear,
+    // The lowest buffer at fault, with its number of places.
+    Fault(BufferId, u32),
+    Refused { refusal: Refusal, place: u32 },
+}
+
+pub struct Outcome {
+    pub answer: Answer,
+    pub pool: Pool,
+}

@@ -1,0 +1,2 @@
+-- Laws of the step that callers cite.
+pub mod Laws

@@ -1,0 +1,3 @@
+-- What the contracts of worker cite.
+pub mod Registers
+pub mod Steps
