@@ -68,7 +68,7 @@ reordered : (c t e₀ e p₀ p s₀ s v₀ b₀ b w₀ l i r : Bool)
     ≡ (c && ((t && e₀ && p₀ && s₀ && v₀) && b₀ && w₀) && (e && b && l) && ((p && s) && i) && r)
 reordered c t e₀ e p₀ p s₀ s v₀ b₀ b w₀ l i r = simp reorder
 
-pub scanned : (p : Pool)
+scanned : (p : Pool)
     → (countsSound p && allBelow 32 (untakenFrom (p .taken) (p .g)) && allBelow 32 (fits (p .employer) (p .w) (p .g))
     && allBelow 32 (fits (p .posted) (p .b) (p .g)) && allBelow 32 (fits (p .«slot_id») (p .b) (p .g))
     && allBelow 32 (zeroFrom (p .«slot_version») (p .g)) && allBelow 256 (fits (p .states) 2 (p .b))
@@ -91,3 +91,15 @@ scanned p =
     (allBelow 8 (label p))
     (allBelow 8 (ids p))
     (allBelow 8 (registers p)))
+
+-- the same from what the scans answered
+module _ (p : Pool) {taken employer posted ids versions states workers : Bool}
+    (ht : taken ≡ allBelow 32 (untakenFrom (p .taken) (p .g)))
+    (he : employer ≡ allBelow 32 (fits (p .employer) (p .w) (p .g)))
+    (hp : posted ≡ allBelow 32 (fits (p .posted) (p .b) (p .g)))
+    (hi : ids ≡ allBelow 32 (fits (p .«slot_id») (p .b) (p .g)))
+    (hv : versions ≡ allBelow 32 (zeroFrom (p .«slot_version») (p .g)))
+    (hs : states ≡ allBelow 256 (fits (p .states) 2 (p .b)))
+    (hw : workers ≡ allBelow 8 (workerFitsAt (p .w) (p .g) (p .b) (p .workers) (p .sets))) where
+  pub scanned-by : (countsSound p && taken && employer && posted && ids && versions && states && workers) ≡ soundOf p
+  scanned-by = rw (ht, he, hp, hi, hv, hs, hw) (scanned p)

@@ -65,7 +65,8 @@ pub enum Answer {
     Clear,
     // The lowest buffer at fault, with its number of places.
     Fault(BufferId, u32),
-    Refused { refusal: Refusal, place: u32 },
+    // With a place: an index into a give-up list, and otherwise 0.
+    Refused(Refusal, usize),
 }
 
 pub struct Outcome {

@@ -27,10 +27,7 @@ impl Pool {
         } else {
             let pool = Pool::blank(0, 0, 0);
             Outcome {
-                answer: Answer::Refused {
-                    refusal: Refusal::SizesOutOfRange,
-                    place: 0,
-                },
+                answer: Answer::Refused(Refusal::SizesOutOfRange, 0),
                 pool: pool,
             }
         }

@@ -3,16 +3,16 @@ use libc::STDOUT_FILENO;
 use pool::Answer;
 use pool::Pool;
 
-fn print_number(before: &[u8], n: u32) {
+fn print_number(before: &[u8], n: u64) {
     io::write_all(STDOUT_FILENO, before);
-    io::print_decimal(STDOUT_FILENO, n as u64);
+    io::print_decimal(STDOUT_FILENO, n);
 }
 
 fn print_answer(answer: Answer) {
     match answer {
-        Answer::Refused { refusal, place } => {
-            print_number(b"refused ", refusal.number());
-            print_number(b" at place ", place);
+        Answer::Refused(refusal, place) => {
+            print_number(b"refused ", refusal.number() as u64);
+            print_number(b" at place ", place as u64);
         }
         _ => {
             io::write_all(STDOUT_FILENO, b"accepted");
@@ -21,9 +21,9 @@ fn print_answer(answer: Answer) {
 }
 
 fn show_make(w: u32, g: u32, b: u32) {
-    print_number(b"make ", w);
-    print_number(b" ", g);
-    print_number(b" ", b);
+    print_number(b"make ", w as u64);
+    print_number(b" ", g as u64);
+    print_number(b" ", b as u64);
     io::write_all(STDOUT_FILENO, b": ");
     let made = Pool::make(w, g, b);
     let answer = made.answer;

@@ -1,5 +1,5 @@
 -- `pool::Pool::sound` meets its contract. Assumes nothing.
-use Rattle.pool.proofs.Scans.{scanned}
+use Rattle.pool.proofs.Scans.{scanned-by}
 use borrow.Author.Needs.{needs}
 use Rattle.pool.proofs.Pool.sound.Statement.{statement}
 use Rattle.pool.proofs.Pool.sound.Tie as tie
@@ -33,8 +33,8 @@ returns c =
     let posted = ids .before .before .before in
     let employer = posted .before .before .before in
     let taken = employer .before .before .before in
-    rw (taken .untaken-from .ensures, employer .fit .ensures, posted .fit2 .ensures, ids .fit3 .ensures, versions .zero-from .ensures, states .states-fit .ensures, c .workers-fit .ensures)
-    (scanned (taken .before .before .before .args .t1))
+    scanned-by (taken .before .before .before .args .t1) (taken .untaken-from .ensures) (employer .fit .ensures) (posted .fit2 .ensures)
+    (ids .fit3 .ensures) (versions .zero-from .ensures) (states .states-fit .ensures) (c .workers-fit .ensures)
 
 pub sound-spec : {M : Type 1} → statement M
 sound-spec =
