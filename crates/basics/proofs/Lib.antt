@@ -2,4 +2,6 @@
 pub mod Truth
 pub mod Picks
 pub mod All
+pub mod Any
 pub mod Count
+pub mod Table

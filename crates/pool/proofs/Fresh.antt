@@ -8,7 +8,7 @@ use lib.Dec.{leb, ltb}
 use lib.ListN.{getD, replicate, getD-replicate}
 use borrow.Author.Tests.{le-leb, leb-true, lt-ltb}
 use Rattle.basics.specs.Pick.{unless}
-use Rattle.basics.specs.Among.{among}
+use Rattle.basics.specs.Below.{anyBelow}
 use Rattle.basics.proofs.All.{all-of}
 use Rattle.basics.proofs.Truth.{each}
 use Rattle.idset.specs.declared.IdSet.{IdSet}
@@ -74,7 +74,7 @@ module _ (w g b : ℕ) (h : inRange w g b ≡ true) where
       (all-of 8 (workersBeyond (blank w g b)) (λ k l. or-right (ltb k w) _ (rw (repeated 8 k noWorker, set-of-blank w g b k l) (none-within 0))))
 
   made-kinds : kindsSound (blank w g b) ≡ true
-  unfolding kindsSound among
+  unfolding kindsSound anyBelow
   made-kinds =
       ap₂ _&&_
       (ap₂ _&&_ (all-of 32 _ (λ i l. rw (zeros 32 i) (le-leb 0 w (omega arith)))) (all-of 256 _ (λ k l. rw (zeros 256 (suc k - 1)))))

@@ -6,24 +6,21 @@ use Prim.Native.Nat.{ℕ, _/_, _%_, _^_, _≤_}
 use native.Mathlib.Nat.{mod-eq-of-lt}
 use native.Mathlib.Omega.{arith}
 use lib.Dec.{eqb, ltb}
+use lib.ListN.{length, getD}
 use borrow.Author.Tests.{lt-ltb, le-ltb, ltb-true, ne-eqb}
 use Rattle.basics.specs.Among.{among}
-use Rattle.basics.specs.Below.{allBelow}
+use Rattle.basics.specs.Below.{allBelow, anyBelow}
+use Rattle.basics.proofs.Any.{any-false}
 use Rattle.basics.proofs.All.{all-at}
-use Rattle.basics.proofs.Truth.{by-order, and-left, and-right}
+use Rattle.basics.proofs.Truth.{by-order}
 use Rattle.pool.specs.Sound.{labels, isLabel}
 
 -- what is larger than each entry is not among them
-allLess : ℕ → List ℕ → Bool
-allLess n [] = true
-allLess n (y ∷ l) = ltb y n && allLess n l
-
-too-large : (n x : ℕ) (l : List ℕ) → allLess n l ≡ true → n ≤ x → among x l ≡ false
-unfolding among allLess
-too-large n x [] h le = refl
-too-large n x (y ∷ l) h le =
-    let low = ltb-true y n (and-left (ltb y n) (allLess n l) h) in
-    rw (ne-eqb x y (λ e. omega arith)) (too-large n x l (and-right (ltb y n) (allLess n l) h) le)
+too-large : (n x : ℕ) (l : List ℕ) → allBelow (length l) (λ j. ltb (getD l j 0) n) ≡ true → n ≤ x → among l x ≡ false
+too-large n x l h le =
+    any-false (length l) (λ j. eqb (getD l j 0) x) (λ j b.
+    let low = ltb-true (getD l j 0) n (all-at (length l) (λ j. ltb (getD l j 0) n) h j b) in
+    ne-eqb (getD l j 0) x (λ e. omega arith))
 
 same : Bool → Bool → Bool
 same true b = b
@@ -39,11 +36,11 @@ marked : ℕ → Bool
 marked l = eqb (0x1_9244_b7f5 / 2 ^ l % 2) 1
 
 table : allBelow 64 (λ l. same (marked l) (isLabel l)) ≡ true
-unfolding allBelow same marked among
+unfolding allBelow anyBelow same marked
 table = refl
 
 pub label-mask : (l : ℕ) → (ltb l 64 && eqb (0x1_9244_b7f5 / 2 ^ (l % 64) % 2) 1) ≡ isLabel l
-unfolding marked allLess
+unfolding marked allBelow
 label-mask l =
     by-order 64 l
     (λ h. rw (le-ltb l 64 h) (sym (too-large 64 l labels refl h)))

@@ -4,6 +4,8 @@ use Rattle.pool.specs.declared.Pool.{Pool}
 use Rattle.pool.specs.declared.Outcome.{Outcome}
 use Rattle.pool.specs.declared.Refusal.{Refusal}
 use Rattle.pool.specs.declared.Refusal.the-variants.{SizesOutOfRange, NotSound, NoSuchWorker, WorkerNotIdle, WorkerIdle, NoSuchGuard, GuardNotEmployed, GuardPosted, NoSuchBuffer, BufferRepeated, BufferInWrongState, VersionsUsedUp, ListTooShort, MemberNotLeaving}
+use Rattle.pool.specs.declared.Verdict.{Verdict}
+use Rattle.pool.specs.declared.Verdict.the-variants.{Fine, Fault as Faulty}
 use Rattle.pool.specs.declared.Answer.{Answer}
 use Rattle.pool.specs.declared.Answer.the-variants.{Accepted, Yes, No, At, Hired, NoneFound, Fired, Posted, Back, Count, Clear, Fault, Refused}
 
@@ -58,3 +60,29 @@ told o = record { answer = said (o .answer); pool = o .pool }
 
 abbrev pub answering : Said → Pool → Told
 answering a p = record { answer = a; pool = p }
+
+-- ---- checks
+
+-- what a check of a call's record and arguments finds: nothing, or a number and a place
+pub data Check : Type 0 where
+  fine : Check
+  refuse : ℕ → ℕ → Check
+
+abbrev pub verdict : Verdict → Check
+verdict Fine = fine
+verdict (Faulty r place) = refuse (numberOf r) place
+
+-- the first of two checks that refuses
+unfoldable pub first : Check → Check → Check
+first fine b = b
+first (refuse n place) b = refuse n place
+
+-- a refusal leaves the record as it was
+unfoldable pub afterCheck : Check → Pool → Told → Told
+afterCheck fine p d = d
+afterCheck (refuse n place) p d = answering (refused n place) p
+
+-- a question is only its answer
+unfoldable pub answerAfter : Check → Said → Said
+answerAfter fine a = a
+answerAfter (refuse n place) a = refused n place

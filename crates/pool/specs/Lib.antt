@@ -3,4 +3,7 @@ pub mod Record
 pub mod Answers
 pub mod Sound
 pub mod Make
+pub mod Checks
+pub mod Begins
+pub mod Questions
 pub mod Scans

@@ -1,8 +1,8 @@
 -- The parts of a pool record, by the numbers of the paper: guard i from 0, buffer id from 1; k is a worker's number less 1.
 use Prim.Native.Nat.{ℕ, _-_}
 use mathlib.Core.Bool.{Bool, false}
-use mathlib.Core.List.{[]}
-use lib.ListN.{getD, replicate}
+use mathlib.Core.List.{List, []}
+use lib.ListN.{getD, set, replicate}
 use Rattle.idset.specs.declared.IdSet.{IdSet}
 use Rattle.idset.specs.Members.{noIds}
 use Rattle.worker.specs.declared.Slot.{Slot}
@@ -34,22 +34,65 @@ workerAt p k = getD (p .workers) k noWorker
 abbrev pub setAt : Pool → ℕ → IdSet
 setAt p k = getD (p .sets) k (record { words = [] })
 
--- ---- making
+-- ---- the whole record: built here and nowhere else
 
--- the record of these counts whose every other number is 0, with no guard taken, every set empty, every label idle, every buffer free
-abbrev pub blank : ℕ → ℕ → ℕ → Pool
-blank w g b =
+abbrev recordOf : ℕ → ℕ → ℕ → ℕ → List Bool → List ℕ → List ℕ → List ℕ → List ℕ → List ℕ → List Worker → List IdSet → Pool
+recordOf w g b maxg taken employer posted ids versions states workers sets =
     record {
       w = w;
       g = g;
       b = b;
-      maxg = 0;
-      taken = replicate 32 false;
-      employer = replicate 32 0;
-      posted = replicate 32 0;
-      «slot_id» = replicate 32 0;
-      «slot_version» = replicate 32 0;
-      states = replicate 256 0;
-      workers = replicate 8 noWorker;
-      sets = replicate 8 noIds;
+      maxg = maxg;
+      taken = taken;
+      employer = employer;
+      posted = posted;
+      «slot_id» = ids;
+      «slot_version» = versions;
+      states = states;
+      workers = workers;
+      sets = sets;
     }
+
+-- these counts, and every other number 0: no guard taken, every buffer free, every worker idle, every set empty
+abbrev pub blank : ℕ → ℕ → ℕ → Pool
+blank w g b =
+    recordOf w g b 0 (replicate 32 false) (replicate 32 0) (replicate 32 0) (replicate 32 0) (replicate 32 0) (replicate 256 0)
+    (replicate 8 noWorker) (replicate 8 noIds)
+
+-- ---- changing: one word per field, and all else as it was
+
+abbrev pub withMaxg : ℕ → Pool → Pool
+withMaxg m p =
+    recordOf (p .w) (p .g) (p .b) m (p .taken) (p .employer) (p .posted) (p .«slot_id») (p .«slot_version») (p .states) (p .workers) (p .sets)
+
+abbrev pub withTaken : ℕ → Bool → Pool → Pool
+withTaken i t p =
+    recordOf (p .w) (p .g) (p .b) (p .maxg) (set (p .taken) i t) (p .employer) (p .posted) (p .«slot_id») (p .«slot_version») (p .states) (p .workers) (p .sets)
+
+abbrev pub withEmployer : ℕ → ℕ → Pool → Pool
+withEmployer i n p =
+    recordOf (p .w) (p .g) (p .b) (p .maxg) (p .taken) (set (p .employer) i n) (p .posted) (p .«slot_id») (p .«slot_version») (p .states) (p .workers) (p .sets)
+
+abbrev pub withPosted : ℕ → ℕ → Pool → Pool
+withPosted i id p =
+    recordOf (p .w) (p .g) (p .b) (p .maxg) (p .taken) (p .employer) (set (p .posted) i id) (p .«slot_id») (p .«slot_version») (p .states) (p .workers) (p .sets)
+
+abbrev pub withSlot : ℕ → Slot → Pool → Pool
+withSlot i s p =
+    recordOf (p .w) (p .g) (p .b) (p .maxg) (p .taken) (p .employer) (p .posted) (set (p .«slot_id») i (s .id)) (set (p .«slot_version») i (s .version)) (p .states) (p .workers) (p .sets)
+
+abbrev pub withStates : List ℕ → Pool → Pool
+withStates l p =
+    recordOf (p .w) (p .g) (p .b) (p .maxg) (p .taken) (p .employer) (p .posted) (p .«slot_id») (p .«slot_version») l (p .workers) (p .sets)
+
+abbrev pub withWorker : ℕ → Worker → Pool → Pool
+withWorker k x p =
+    recordOf (p .w) (p .g) (p .b) (p .maxg) (p .taken) (p .employer) (p .posted) (p .«slot_id») (p .«slot_version») (p .states) (set (p .workers) k x) (p .sets)
+
+abbrev pub withSet : ℕ → IdSet → Pool → Pool
+withSet k s p =
+    recordOf (p .w) (p .g) (p .b) (p .maxg) (p .taken) (p .employer) (p .posted) (p .«slot_id») (p .«slot_version») (p .states) (p .workers) (set (p .sets) k s)
+
+-- buffer id's state
+abbrev pub withState : ℕ → ℕ → Pool → Pool
+withState id s p = withStates (set (p .states) (id - 1) s) p

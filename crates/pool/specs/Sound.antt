@@ -49,7 +49,7 @@ abbrev pub labels : List ℕ
 labels = 0 ∷ 2 ∷ 4 ∷ 5 ∷ 6 ∷ 7 ∷ 8 ∷ 9 ∷ 10 ∷ 12 ∷ 13 ∷ 15 ∷ 18 ∷ 22 ∷ 25 ∷ 28 ∷ 31 ∷ 32 ∷ []
 
 abbrev pub isLabel : ℕ → Bool
-isLabel l = among l labels
+isLabel l = among labels l
 
 unfoldable pub kindsSound : Pool → Bool
 kindsSound p =

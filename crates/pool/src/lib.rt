@@ -73,3 +73,9 @@ pub struct Outcome {
     pub answer: Answer,
     pub pool: Pool,
 }
+
+// What a check of a call's record and arguments found.
+enum Verdict {
+    Fine,
+    Fault(Refusal, usize),
+}

@@ -1,0 +1,42 @@
+-- The laws of `anyBelow` and of `among`. Assumes nothing.
+use Prim.Native.Nat.{ℕ, zero, suc, _+_, _<_}
+use mathlib.Core.Path.{_≡_, refl, ap₂}
+use mathlib.Core.Bool.{Bool, true, false, _||_, or-true}
+use native.Mathlib.Numerals.{add-one}
+use native.Mathlib.Omega.{arith}
+use Rattle.basics.specs.Below.{anyBelow}
+use Rattle.basics.proofs.Truth.{by-order}
+
+-- before the first turn of a loop, after one more, and after the last
+pub any-none : (f : ℕ → Bool) → false ≡ anyBelow 0 f
+unfolding anyBelow
+any-none f = refl
+
+pub any-again : (n : ℕ) (f : ℕ → Bool) {found s : Bool} → found ≡ anyBelow n f → s ≡ f n → (found || s) ≡ anyBelow (n + 1) f
+unfolding anyBelow
+any-again n f h e = rw (add-one, h, e)
+
+pub any-done : (f : ℕ → Bool) {k n : ℕ} {found : Bool} → found ≡ anyBelow k f → k ≡ n → found ≡ anyBelow n f
+any-done f h e = cc
+
+-- none passes; some one does
+pub any-false : (n : ℕ) (f : ℕ → Bool) → ((i : ℕ) → i < n → f i ≡ false) → anyBelow n f ≡ false
+unfolding anyBelow
+any-false zero f h = refl
+any-false (suc n) f h = ap₂ _||_ (any-false n f (λ i l. h i (omega arith))) (h n (omega arith))
+
+pub any-true : (n : ℕ) (f : ℕ → Bool) (i : ℕ) → i < n → f i ≡ true → anyBelow n f ≡ true
+unfolding anyBelow
+any-true zero f i l e = absurd (omega arith)
+any-true (suc n) f i l e =
+    by-order n i
+    (λ h. let s : i ≡ n = omega arith in rw (← s, e) (or-true (anyBelow i f)))
+    (λ h. rw (any-true n f i h e))
+
+pub any-cong : (n : ℕ) (f g : ℕ → Bool) → ((i : ℕ) → i < n → f i ≡ g i) → anyBelow n f ≡ anyBelow n g
+unfolding anyBelow
+any-cong zero f g e = refl
+any-cong (suc n) f g e = ap₂ _||_ (any-cong n f g (λ i l. e i (omega arith))) (e n (omega arith))
+
+-- for the needs of a loop that looks for one: `search (needs, finds)`
+pub ruleset finds = (any-none, any-again, any-done)
