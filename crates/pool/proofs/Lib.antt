@@ -1,5 +1,7 @@
 -- Laws of the pool's definitions.
 pub mod Told
+pub mod Parts
+pub mod Checked
 pub mod Labels
 pub mod Scans
 pub mod Fresh

@@ -1,11 +1,58 @@
--- What a call says, from what its code answers. Assumes nothing.
-use mathlib.Core.Path.{_≡_}
+-- What a call says, from what its code and the checks that it calls answer; and the sets by which `search` finds it. Assumes nothing.
+use mathlib.Core.Path.{_≡_, sym, ap, _∙_}
+use Prim.Native.Nat.{ℕ}
 use Rattle.basics.proofs.Picks.{picks}
 use Rattle.pool.specs.declared.Pool.{Pool}
-use Rattle.pool.specs.Answers.{Said, answering}
+use Rattle.pool.specs.declared.Refusal.{Refusal}
+use Rattle.pool.specs.declared.Verdict.{Verdict}
+use Rattle.pool.specs.declared.Verdict.the-variants.{Fine, Fault}
+use Rattle.pool.specs.Answers.{Said, Told, Check, fine, refuse, numberOf, verdict, first, afterCheck, answerAfter, answering, refused}
 
 -- the record that a callee made
 pub same-pool : (a : Said) (p q : Pool) → p ≡ q → answering a p ≡ answering a q
 same-pool a p q e = rw e
 
+-- ---- a check that was called answered v: what it found
+
+module _ (v : Verdict) {s : Check} (e : verdict v ≡ s) where
+  pub fine-by : v ≡ Fine → s ≡ fine
+  fine-by q = sym e ∙ ap verdict q
+
+  pub refuse-by : (r : Refusal) (place : ℕ) → v ≡ Fault r place → s ≡ refuse (numberOf r) place
+  refuse-by r place q = sym e ∙ ap verdict q
+
+-- ---- what follows a check, by what the check found
+
+pub first-fine : (v : Verdict) (x a b : Check) → verdict v ≡ a → v ≡ Fine → x ≡ b → x ≡ first a b
+unfolding first
+first-fine v x a b e q h = rw (fine-by v e q) h
+
+pub first-refuse : (v : Verdict) (r : Refusal) (place : ℕ) (a b : Check) → verdict v ≡ a → v ≡ Fault r place → refuse (numberOf r) place ≡ first a b
+unfolding first
+first-refuse v r place a b e q = rw (refuse-by v e r place q)
+
+pub after-fine : (v : Verdict) (x : Told) (a : Check) (p : Pool) (d : Told) → verdict v ≡ a → v ≡ Fine → x ≡ d → x ≡ afterCheck a p d
+unfolding afterCheck
+after-fine v x a p d e q h = rw (fine-by v e q) h
+
+pub after-refuse : (v : Verdict) (r : Refusal) (place : ℕ) (a : Check) (p : Pool) (d : Told) → verdict v ≡ a → v ≡ Fault r place
+    → answering (refused (numberOf r) place) p ≡ afterCheck a p d
+unfolding afterCheck
+after-refuse v r place a p d e q = rw (refuse-by v e r place q)
+
+pub answer-fine : (v : Verdict) (x : Said) (a : Check) (s : Said) → verdict v ≡ a → v ≡ Fine → x ≡ s → x ≡ answerAfter a s
+unfolding answerAfter
+answer-fine v x a s e q h = rw (fine-by v e q) h
+
+pub answer-refuse : (v : Verdict) (r : Refusal) (place : ℕ) (a : Check) (s : Said) → verdict v ≡ a → v ≡ Fault r place
+    → refused (numberOf r) place ≡ answerAfter a s
+unfolding answerAfter
+answer-refuse v r place a s e q = rw (refuse-by v e r place q)
+
 pub ruleset makes = (picks, same-pool)
+
+pub ruleset checks = (picks, first-fine, first-refuse)
+
+pub ruleset begins = (picks, after-fine, after-refuse, same-pool)
+
+pub ruleset answers = (picks, answer-fine, answer-refuse)
