@@ -1,21 +1,26 @@
 -- What is known of the record and the arguments once a check has found nothing: `search` finds each by what the check's code answered.
 -- Assumes nothing.
-use mathlib.Core.Path.{_≡_, refl}
-use mathlib.Core.Bool.{true}
-use Prim.Native.Nat.{ℕ, _≤_, _<_}
+use mathlib.Core.Path.{_≡_, refl, sym, _∙_}
+use mathlib.Core.Bool.{Bool, true, false, not}
+use mathlib.Core.List.{List}
+use Prim.Native.Nat.{ℕ, _-_, _≤_, _<_}
+use lib.ListN.{length}
 use native.Mathlib.Omega.{arith}
+use mir.Syntax.{w64}
+use mir.Val.{Fits}
 use lib.Dec.{eqb, leb, ltb}
-use borrow.Author.Tests.{ltb-false, leb-false, eqb-true}
+use borrow.Author.Tests.{ltb-false, leb-false, eqb-true, not-false}
 use Rattle.basics.proofs.Picks.{when-back, unless-back}
 use Rattle.pool.specs.declared.Pool.{Pool}
 use Rattle.pool.specs.declared.WorkerNo.{WorkerNo}
 use Rattle.pool.specs.declared.GuardNo.{GuardNo}
+use Rattle.pool.specs.declared.BufferId.{BufferId}
 use Rattle.pool.specs.declared.Verdict.{Verdict}
 use Rattle.pool.specs.declared.Verdict.the-variants.{Fine}
 use Rattle.pool.specs.Answers.{Check, fine, refuse, verdict, first}
-use Rattle.pool.specs.Record.{employerAt}
+use Rattle.pool.specs.Record.{employerAt, postedAt, stateOf}
 use Rattle.pool.specs.Sound.{soundOf}
-use Rattle.pool.specs.Checks.{workerOf, soundCheck, workerCheck, beginCheck, guardCheck, idCheck}
+use Rattle.pool.specs.Checks.{workerOf, soundCheck, workerCheck, beginCheck, guardCheck, idCheck, fireCheck, postCheck, listCheck, giveUpCheck, takeCheck, askCheck}
 use Rattle.pool.proofs.Parts.{Sizes, sizes-of}
 use Rattle.pool.proofs.Told.{fine-by}
 
@@ -96,3 +101,144 @@ buffer p id place h =
 
 pub buffer-by : (v : Verdict) (p : Pool) (id place : ℕ) → verdict v ≡ idCheck p id place → v ≡ Fine → Buffer p id
 buffer-by v p id place e q = buffer p id place (fine-by v e q)
+
+-- ---- what the calls' own checks leave
+
+pub record Fires (p : Pool) (w : WorkerNo) (g : GuardNo) : Type 0 where
+  pub begun : Begun p w
+  pub guard : Employed p w g
+  pub unposted : postedAt p (g .0) ≡ 0
+
+pub fires : (p : Pool) (w : WorkerNo) (g : GuardNo) → fireCheck p w g ≡ fine → Fires p w g
+unfolding fireCheck
+fires p w g h =
+    let a = first-both (beginCheck p w) _ h in
+    let b = first-both (guardCheck p w g) _ (a .1) in
+    let c = unless-back (eqb (postedAt p (g .0)) 0) fine (refuse 8 0) fine never (b .1) in
+    record { begun = begun p w (a .0); guard = employed p w g (b .0); unposted = eqb-true _ _ (c .0) }
+
+pub record Posts (p : Pool) (w : WorkerNo) (g : GuardNo) (b : BufferId) : Type 0 where
+  pub begun : Begun p w
+  pub guard : Employed p w g
+  pub most : b .0 ≤ p .b
+
+pub posts : (p : Pool) (w : WorkerNo) (g : GuardNo) (b : BufferId) → postCheck p w g b ≡ fine → Posts p w g b
+unfolding postCheck
+posts p w g b h =
+    let a = first-both (beginCheck p w) _ h in
+    let c = first-both (guardCheck p w g) _ (a .1) in
+    let d = when-back (ltb (p .b) (b .0)) fine (refuse 9 0) fine never (c .1) in
+    record { begun = begun p w (a .0); guard = employed p w g (c .0); most = ltb-false _ _ (d .0) }
+
+pub record Takes (p : Pool) (b : BufferId) : Type 0 where
+  pub sound : soundOf p ≡ true
+  pub sizes : Sizes p
+  pub buffer : Buffer p (b .0)
+  pub free : stateOf p (b .0) ≡ 0
+
+pub takes : (p : Pool) (b : BufferId) → takeCheck p b ≡ fine → Takes p b
+unfolding takeCheck
+takes p b h =
+    let a = first-both (soundCheck p) _ h in
+    let c = first-both (idCheck p (b .0) 0) _ (a .1) in
+    let d = unless-back (eqb (stateOf p (b .0)) 0) fine (refuse 11 0) fine never (c .1) in
+    let sound = sound-of p (a .0) in
+    record { sound = sound; sizes = sizes-of p sound; buffer = buffer p (b .0) 0 (c .0); free = eqb-true _ _ (d .0) }
+
+pub record Asks (p : Pool) (w : WorkerNo) (b : BufferId) : Type 0 where
+  pub begun : Begun p w
+  pub buffer : Buffer p (b .0)
+
+pub asks : (p : Pool) (w : WorkerNo) (b : BufferId) → askCheck p w b ≡ fine → Asks p w b
+unfolding askCheck
+asks p w b h = let a = first-both (beginCheck p w) _ h in record { begun = begun p w (a .0); buffer = buffer p (b .0) 0 (a .1) }
+
+pub record GivesUp (p : Pool) (w : WorkerNo) (ids : List ℕ) : Type 0 where
+  pub begun : Begun p w
+  pub list : listCheck p ids (length ids) ≡ fine
+
+pub gives-up : (p : Pool) (w : WorkerNo) (ids : List ℕ) → giveUpCheck p w ids ≡ fine → GivesUp p w ids
+unfolding giveUpCheck
+gives-up p w ids h = let a = first-both (beginCheck p w) _ h in record { begun = begun p w (a .0); list = a .1 }
+
+-- ---- the ranges that the code's indices want, by what the check's code answered: `search indices`
+
+index : {p : Pool} {w : WorkerNo} → Named p w → w .0 - 1 < 8
+index n = omega (arith, n)
+
+slot-index : {p : Pool} {w : WorkerNo} {g : GuardNo} → Named p w → Employed p w g → g .0 < 32
+slot-index n e = omega (arith, n, e)
+
+state-index : {p : Pool} {id : ℕ} → Sizes p → Buffer p id → id - 1 < 256
+state-index s b = omega (arith, s, b)
+
+module _ (v : Verdict) (p : Pool) (q : v ≡ Fine) where
+  pub worker-some : (w : WorkerNo) → verdict v ≡ workerCheck p w → 1 ≤ w .0
+  worker-some w e = named p w (fine-by v e q) .some
+
+  pub worker-at : (w : WorkerNo) → verdict v ≡ workerCheck p w → w .0 - 1 < 8
+  worker-at w e = index (named p w (fine-by v e q))
+
+  pub begin-some : (w : WorkerNo) → verdict v ≡ beginCheck p w → 1 ≤ w .0
+  begin-some w e = begun p w (fine-by v e q) .worker .some
+
+  pub begin-at : (w : WorkerNo) → verdict v ≡ beginCheck p w → w .0 - 1 < 8
+  begin-at w e = index (begun p w (fine-by v e q) .worker)
+
+  pub begin-guards : (w : WorkerNo) → verdict v ≡ beginCheck p w → p .g ≤ 32
+  begin-guards w e = begun p w (fine-by v e q) .worker .sizes .g-most
+
+  pub begin-buffers : (w : WorkerNo) → verdict v ≡ beginCheck p w → p .b ≤ 256
+  begin-buffers w e = begun p w (fine-by v e q) .worker .sizes .b-most
+
+  pub fire-some : (w : WorkerNo) (g : GuardNo) → verdict v ≡ fireCheck p w g → 1 ≤ w .0
+  fire-some w g e = fires p w g (fine-by v e q) .begun .worker .some
+
+  pub fire-at : (w : WorkerNo) (g : GuardNo) → verdict v ≡ fireCheck p w g → w .0 - 1 < 8
+  fire-at w g e = index (fires p w g (fine-by v e q) .begun .worker)
+
+  pub fire-guard : (w : WorkerNo) (g : GuardNo) → verdict v ≡ fireCheck p w g → g .0 < 32
+  fire-guard w g e = let f = fires p w g (fine-by v e q) in slot-index (f .begun .worker) (f .guard)
+
+  pub post-some : (w : WorkerNo) (g : GuardNo) (b : BufferId) → verdict v ≡ postCheck p w g b → 1 ≤ w .0
+  post-some w g b e = posts p w g b (fine-by v e q) .begun .worker .some
+
+  pub post-at : (w : WorkerNo) (g : GuardNo) (b : BufferId) → verdict v ≡ postCheck p w g b → w .0 - 1 < 8
+  post-at w g b e = index (posts p w g b (fine-by v e q) .begun .worker)
+
+  pub give-some : (w : WorkerNo) (ids : List ℕ) → verdict v ≡ giveUpCheck p w ids → 1 ≤ w .0
+  give-some w ids e = gives-up p w ids (fine-by v e q) .begun .worker .some
+
+  pub give-at : (w : WorkerNo) (ids : List ℕ) → verdict v ≡ giveUpCheck p w ids → w .0 - 1 < 8
+  give-at w ids e = index (gives-up p w ids (fine-by v e q) .begun .worker)
+
+  pub take-some : (b : BufferId) → verdict v ≡ takeCheck p b → 1 ≤ b .0
+  take-some b e = takes p b (fine-by v e q) .buffer .some
+
+  pub take-at : (b : BufferId) → verdict v ≡ takeCheck p b → b .0 - 1 < 256
+  take-at b e = let t = takes p b (fine-by v e q) in state-index (t .sizes) (t .buffer)
+
+  pub ask-some : (w : WorkerNo) (b : BufferId) → verdict v ≡ askCheck p w b → 1 ≤ b .0
+  ask-some w b e = asks p w b (fine-by v e q) .buffer .some
+
+  pub ask-at : (w : WorkerNo) (b : BufferId) → verdict v ≡ askCheck p w b → b .0 - 1 < 256
+  ask-at w b e = let a = asks p w b (fine-by v e q) in state-index (a .begun .worker .sizes) (a .buffer)
+
+-- of two checks, one after the other
+pub guard-at : (v u : Verdict) (p : Pool) (w : WorkerNo) (g : GuardNo) → verdict v ≡ beginCheck p w → v ≡ Fine → verdict u ≡ guardCheck p w g
+    → u ≡ Fine → g .0 < 32
+guard-at v u p w g e q f r = slot-index (begun p w (fine-by v e q) .worker) (employed p w g (fine-by u f r))
+
+pub id-some : (v : Verdict) (p : Pool) (id place : ℕ) → verdict v ≡ idCheck p id place → v ≡ Fine → 1 ≤ id
+id-some v p id place e q = buffer p id place (fine-by v e q) .some
+
+pub id-at : (v : Verdict) (p : Pool) (id place : ℕ) (s : Bool) → verdict v ≡ idCheck p id place → v ≡ Fine → s ≡ soundOf p → not s ≡ false → id - 1 < 256
+id-at v p id place s e q h t = state-index (sizes-of p (sym h ∙ not-false s t)) (buffer p id place (fine-by v e q))
+
+pub id-below : (v : Verdict) (p : Pool) (id place : ℕ) → verdict v ≡ idCheck p id place → v ≡ Fine → p .b ≤ 256 → id - 1 < 256
+id-below v p id place e q h = let b = buffer p id place (fine-by v e q) in omega arith
+
+pub id-fits : (v : Verdict) (p : Pool) (id place : ℕ) → verdict v ≡ idCheck p id place → v ≡ Fine → p .b ≤ 256 → Fits w64 (id - 1)
+id-fits v p id place e q h = record { fits = omega (arith, id-below v p id place e q h) }
+
+pub ruleset indices = (guard-at, id-some, id-at, id-below, id-fits, worker-some, worker-at, begin-some, begin-at, begin-guards, begin-buffers, fire-some, fire-at, fire-guard, post-some, post-at, give-some, give-at, take-some, take-at, ask-some, ask-at)

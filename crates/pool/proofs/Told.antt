@@ -1,7 +1,11 @@
 -- What a call says, from what its code and the checks that it calls answer; and the sets by which `search` finds it. Assumes nothing.
-use mathlib.Core.Path.{_≡_, sym, ap, _∙_}
+use mathlib.Core.Path.{_≡_, refl, sym, ap, _∙_}
 use Prim.Native.Nat.{ℕ}
+use mathlib.Core.Bool.{Bool, true, false}
+use Rattle.basics.specs.Pick.{unless}
 use Rattle.basics.proofs.Picks.{picks}
+use Rattle.pool.specs.Sound.{soundOf}
+use Rattle.pool.specs.Checks.{soundCheck}
 use Rattle.pool.specs.declared.Pool.{Pool}
 use Rattle.pool.specs.declared.Refusal.{Refusal}
 use Rattle.pool.specs.declared.Verdict.{Verdict}
@@ -11,6 +15,9 @@ use Rattle.pool.specs.Answers.{Said, Told, Check, fine, refuse, numberOf
 -- the record that a callee made
 pub same-pool : (a : Said) (p q : Pool) → p ≡ q → answering a p ≡ answering a q
 same-pool a p q e = rw e
+
+pub same-answer : (a b : Said) (p : Pool) → a ≡ b → answering a p ≡ answering b p
+same-answer a b p e = rw e
 
 -- ---- a check that was called answered v: what it found
 
@@ -49,10 +56,19 @@ pub answer-refuse : (v : Verdict) (r : Refusal) (place : ℕ) (a : Check) (s : S
 unfolding answerAfter
 answer-refuse v r place a s e q = rw (refuse-by v e r place q)
 
+-- the check of soundness alone is a test, not a call
+pub sound-first : (p : Pool) (b : Check) → first (soundCheck p) b ≡ unless (soundOf p) (refuse 2 0) b
+unfolding first unless
+sound-first p b = go (soundOf p)
+  where
+    go : (t : Bool) → first (unless t (refuse 2 0) fine) b ≡ unless t (refuse 2 0) b
+    go true = refl
+    go false = refl
+
 pub ruleset makes = (picks, same-pool)
 
 pub ruleset checks = (picks, first-fine, first-refuse)
 
-pub ruleset begins = (picks, after-fine, after-refuse, same-pool)
+pub ruleset begins = (picks, after-fine, after-refuse, same-pool, same-answer)
 
 pub ruleset answers = (picks, answer-fine, answer-refuse)

@@ -1,7 +1,10 @@
 // What is wrong with a call's record and arguments, in the order of the paper's table.
 ghost use mathlib.Core.Path.{_≡_};
 ghost use Rattle.pool.specs.Answers.{verdict};
-ghost use Rattle.pool.specs.Checks.{workerCheck, beginCheck};
+ghost use Prim.Native.Nat.{_≤_, _<_};
+ghost use lib.ListN.{length, getD};
+ghost use Rattle.basics.specs.Among.{amongFirst};
+ghost use Rattle.pool.specs.Checks.{workerCheck, beginCheck, guardCheck, idCheck, fireCheck, postCheck, entryCheck, listCheck, giveUpCheck, takeCheck, askCheck};
 use crate::BufferId;
 use crate::GuardNo;
 use crate::Pool;
@@ -11,7 +14,7 @@ use crate::WorkerNo;
 
 impl Pool {
     // 2, 3.
-    fn worker_check(self, w: WorkerNo) -> Verdict
+    pub(crate) fn worker_check(self, w: WorkerNo) -> Verdict
         ensures { λ r. ⌜ verdict r ≡ workerCheck self w ⌝ }
     {
         let sound = self.sound();
@@ -29,7 +32,7 @@ impl Pool {
     }
 
     // 2, 3, 4.
-    fn begin_check(self, w: WorkerNo) -> Verdict
+    pub(crate) fn begin_check(self, w: WorkerNo) -> Verdict
         ensures { λ r. ⌜ verdict r ≡ beginCheck self w ⌝ }
     {
         let check = self.worker_check(w);
@@ -46,4 +49,174 @@ impl Pool {
             }
         }
     }
+
+    // 6, 7.
+    fn guard_check(self, w: WorkerNo, g: GuardNo) -> Verdict
+        requires { ⌜ self .g ≤ 32 ⌝ }
+        ensures { λ r. ⌜ verdict r ≡ guardCheck self w g ⌝ }
+    {
+        let no = g.0;
+        if self.g <= no {
+            return Verdict::Fault(Refusal::NoSuchGuard, 0);
+        }
+        let i = no as usize;
+        if self.employer[i] == w.0 {
+            Verdict::Fine
+        } else {
+            Verdict::Fault(Refusal::GuardNotEmployed, 0)
+        }
+    }
+
+    // 9.
+    fn id_check(self, id: u32, place: usize) -> Verdict
+        ensures { λ r. ⌜ verdict r ≡ idCheck self id place ⌝ }
+    {
+        if id < 1 {
+            return Verdict::Fault(Refusal::NoSuchBuffer, place);
+        }
+        if self.b < id {
+            return Verdict::Fault(Refusal::NoSuchBuffer, place);
+        }
+        Verdict::Fine
+    }
+
+    pub(crate) fn fire_check(self, w: WorkerNo, g: GuardNo) -> Verdict
+        ensures { λ r. ⌜ verdict r ≡ fireCheck self w g ⌝ }
+    {
+        let begin = self.begin_check(w);
+        match begin {
+            Verdict::Fault(refusal, place) => Verdict::Fault(refusal, place),
+            Verdict::Fine => {
+                let guard = self.guard_check(w, g);
+                match guard {
+                    Verdict::Fault(refusal, place) => Verdict::Fault(refusal, place),
+                    Verdict::Fine => {
+                        let i = g.0 as usize;
+                        if self.posted[i] == 0 {
+                            Verdict::Fine
+                        } else {
+                            Verdict::Fault(Refusal::GuardPosted, 0)
+                        }
+                    }
+                }
+            }
+        }
+    }
+
+    pub(crate) fn post_check(self, w: WorkerNo, g: GuardNo, b: BufferId) -> Verdict
+        ensures { λ r. ⌜ verdict r ≡ postCheck self w g b ⌝ }
+    {
+        let begin = self.begin_check(w);
+        match begin {
+            Verdict::Fault(refusal, place) => Verdict::Fault(refusal, place),
+            Verdict::Fine => {
+                let guard = self.guard_check(w, g);
+                match guard {
+                    Verdict::Fault(refusal, place) => Verdict::Fault(refusal, place),
+                    Verdict::Fine => if self.b < b.0 {
+                        Verdict::Fault(Refusal::NoSuchBuffer, 0)
+                    } else {
+                        Verdict::Fine
+                    },
+                }
+            }
+        }
+    }
+
+    pub(crate) fn take_check(self, b: BufferId) -> Verdict
+        ensures { λ r. ⌜ verdict r ≡ takeCheck self b ⌝ }
+    {
+        let sound = self.sound();
+        if !sound {
+            return Verdict::Fault(Refusal::NotSound, 0);
+        }
+        let known = self.id_check(b.0, 0);
+        match known {
+            Verdict::Fault(refusal, place) => Verdict::Fault(refusal, place),
+            Verdict::Fine => {
+                let at = (b.0 - 1) as usize;
+                if self.states[at] == 0 {
+                    Verdict::Fine
+                } else {
+                    Verdict::Fault(Refusal::BufferInWrongState, 0)
+                }
+            }
+        }
+    }
+
+    pub(crate) fn ask_check(self, w: WorkerNo, b: BufferId) -> Verdict
+        ensures { λ r. ⌜ verdict r ≡ askCheck self w b ⌝ }
+    {
+        let begin = self.begin_check(w);
+        match begin {
+            Verdict::Fault(refusal, place) => Verdict::Fault(refusal, place),
+            Verdict::Fine => self.id_check(b.0, 0),
+        }
+    }
+
+    // Entry k of a give-up list: 9, 10, 11.
+    fn entry_check(self, ids: &[u32], k: usize) -> Verdict
+        requires { ⌜ (self .b ≤ 256) × (k < length (now ids)) ⌝ }
+        ensures { λ r. ⌜ verdict r ≡ entryCheck self (now (ids .entry)) k ⌝ }
+    {
+        let id = ids[k];
+        let known = self.id_check(id, k);
+        match known {
+            Verdict::Fault(refusal, place) => Verdict::Fault(refusal, place),
+            Verdict::Fine => {
+                let again = repeated(ids, k);
+                if again {
+                    return Verdict::Fault(Refusal::BufferRepeated, k);
+                }
+                let at = (id - 1) as usize;
+                if self.states[at] == 1 {
+                    Verdict::Fine
+                } else {
+                    Verdict::Fault(Refusal::BufferInWrongState, k)
+                }
+            }
+        }
+    }
+
+    // The first entry at fault decides.
+    fn list_check(self, ids: &[u32]) -> Verdict
+        requires { ⌜ self .b ≤ 256 ⌝ }
+        ensures { λ r. ⌜ verdict r ≡ listCheck self (now (ids .entry)) (length (now (ids .entry))) ⌝ }
+    {
+        let mut k: usize = 0;
+        while k < ids.len() {
+            let entry = self.entry_check(ids, k);
+            match entry {
+                Verdict::Fault(refusal, place) => {
+                    return Verdict::Fault(refusal, place);
+                }
+                Verdict::Fine => {}
+            }
+            k += 1;
+        }
+        Verdict::Fine
+    }
+
+    pub(crate) fn give_up_check(self, w: WorkerNo, ids: &[u32]) -> Verdict
+        ensures { λ r. ⌜ verdict r ≡ giveUpCheck self w (now (ids .entry)) ⌝ }
+    {
+        let begin = self.begin_check(w);
+        match begin {
+            Verdict::Fault(refusal, place) => Verdict::Fault(refusal, place),
+            Verdict::Fine => self.list_check(ids),
+        }
+    }
+}
+
+// Whether an earlier entry equals entry k.
+fn repeated(ids: &[u32], k: usize) -> bool
+    requires { ⌜ k < length (now ids) ⌝ }
+    ensures { λ r. ⌜ r ≡ amongFirst (now (ids .entry)) k (getD (now (ids .entry)) k 0) ⌝ }
+{
+    let id = ids[k];
+    let mut found = false;
+    for j in 0..k {
+        found = found | (ids[j] == id);
+    }
+    found
 }

@@ -2,6 +2,7 @@
 // call comes next. Every call takes any record and any arguments; what is wrong with them is answered by a refusal, and then nothing
 // has changed.
 mod answers;
+mod begins;
 mod checks;
 mod make;
 mod sound;

@@ -1,0 +1,128 @@
+-- A give-up list entry by entry: what the loops over it make. Assumes nothing.
+use mathlib.Core.Path.{_≡_, refl, sym, ap, ap₂, _∙_}
+use mathlib.Core.Bool.{Bool, true, false, _&&_, _||_, or-comm}
+use mathlib.Core.List.{List}
+use Prim.Native.Nat.{ℕ, zero, suc, _+_, _-_, _≤_, _<_}
+use native.Mathlib.Decide.{ℕ-discrete}
+use native.Mathlib.Omega.{arith}
+use native.Mathlib.Numerals.{add-one}
+use lib.Dec.{eqb}
+use lib.ListN.{length, getD, set, length-set}
+use lib.Seq.{getD-set-same, getD-set-other}
+use borrow.Author.Tests.{eq-eqb, ne-eqb}
+use Rattle.basics.specs.Pick.{when}
+use Rattle.basics.specs.Below.{anyBelow, table}
+use Rattle.basics.specs.Among.{amongFirst, among}
+use Rattle.basics.proofs.Truth.{eqb-same, by-order}
+use Rattle.basics.proofs.Table.{table-at, table-is, table-cong}
+use Rattle.idset.specs.declared.IdSet.{IdSet}
+use Rattle.idset.specs.Members.{memberOf, setOf, noIds, withOf}
+use Rattle.idset.proofs.Members.{member-setOf, setOf-cong}
+use Rattle.pool.specs.declared.Pool.{Pool}
+use Rattle.pool.specs.declared.Refusal.{Refusal}
+use Rattle.pool.specs.declared.Verdict.{Verdict}
+use Rattle.pool.specs.declared.Verdict.the-variants.{Fine, Fault}
+use Rattle.worker.specs.Registers.{to, withI}
+use Rattle.pool.specs.Answers.{fine, refuse, numberOf, verdict, first, answering, accepted}
+use Rattle.pool.specs.Record.{stateOf, workerAt, withStates, withWorker, withSet}
+use Rattle.pool.specs.Begins.{givingUp}
+use Rattle.pool.specs.Checks.{entryCheck, listCheck}
+use Rattle.pool.proofs.Told.{fine-by, refuse-by}
+
+-- ---- one buffer leaves
+
+abbrev pub leftOne : List ℕ → ℕ → List ℕ
+leftOne st id = table 256 (λ k. when (eqb id (suc k)) 2 (getD st k 0))
+
+pub left-none : (st : List ℕ) (id : ℕ) → length st ≡ 256 → ((k : ℕ) → k < 256 → id ≡ suc k → ⊥) → st ≡ leftOne st id
+unfolding when
+left-none st id e f = table-is 256 _ st 0 e (λ k l. rw (ne-eqb id (suc k) (f k l)))
+
+pub left-some : (st : List ℕ) (id : ℕ) → length st ≡ 256 → 1 ≤ id → id ≤ 256 → set st (id - 1) 2 ≡ leftOne st id
+unfolding when
+left-some st id e lo hi = table-is 256 _ (set st (id - 1) 2) 0 (length-set st (id - 1) 2 ∙ e) (λ k l. go k (ℕ-discrete id (suc k)))
+  where
+    go : (k : ℕ) → Dec (id ≡ suc k) → getD (set st (id - 1) 2) k 0 ≡ when (eqb id (suc k)) 2 (getD st k 0)
+    go k (yes q) =
+        let at : k ≡ id - 1 = omega arith in
+        ap (λ (n : ℕ). getD (set st (id - 1) 2) n 0) at ∙ getD-set-same st (id - 1) 2 0 (omega arith)
+        ∙ rw (eq-eqb id (suc k) q)
+    go k (no n) = getD-set-other st (id - 1) k 2 0 (λ q. n (omega arith)) ∙ rw (ne-eqb id (suc k) n)
+
+-- ---- the first j leave
+
+abbrev pub leftFirst : List ℕ → List ℕ → ℕ → List ℕ
+leftFirst st ids j = table 256 (λ k. when (amongFirst ids j (suc k)) 2 (getD st k 0))
+
+pub left-first-none : (st ids : List ℕ) → length st ≡ 256 → st ≡ leftFirst st ids 0
+unfolding when anyBelow
+left-first-none st ids e = table-is 256 _ st 0 e (λ k l. refl)
+
+nested : (s t : Bool) (x y : ℕ) → when t x (when s x y) ≡ when (s || t) x y
+unfolding when
+nested true true x y = refl
+nested true false x y = refl
+nested false true x y = refl
+nested false false x y = refl
+
+pub left-first-again : (st ids : List ℕ) (j : ℕ) {after next : List ℕ} → after ≡ leftFirst st ids j → next ≡ leftOne after (getD ids j 0)
+    → next ≡ leftFirst st ids (j + 1)
+unfolding anyBelow
+left-first-again st ids j {after} {next} e h =
+    h ∙ table-cong 256 (λ k. when (eqb (getD ids j 0) (suc k)) 2 (getD after k 0)) (λ k. when (amongFirst ids (j + 1) (suc k)) 2 (getD st k 0)) (λ k l.
+    rw (e, add-one, table-at 256 (λ k. when (amongFirst ids j (suc k)) 2 (getD st k 0)) k 0 l)
+    (nested (amongFirst ids j (suc k)) (eqb (getD ids j 0) (suc k)) 2 (getD st k 0)))
+
+-- ---- the first j as a set
+
+pub collected-none : (ids : List ℕ) {s : IdSet} → s ≡ noIds → s ≡ setOf (amongFirst ids 0)
+unfolding noIds anyBelow
+collected-none ids e = e
+
+pub collected-again : (ids : List ℕ) (j : ℕ) {s next : IdSet} → s ≡ setOf (amongFirst ids j) → next ≡ withOf s (getD ids j 0)
+    → next ≡ setOf (amongFirst ids (j + 1))
+unfolding withOf anyBelow
+collected-again ids j {s} {next} e h =
+    let id = getD ids j 0 in
+    h ∙ setOf-cong {p = λ b. eqb b id || memberOf s b} {q = amongFirst ids (j + 1)} (λ b eb.
+    ap₂ _||_ (eqb-same b id id b sym sym) (ap (λ (t : IdSet). memberOf t b) e ∙ member-setOf (amongFirst ids j) b ∙ ap (λ (t : Bool). t && amongFirst ids j b) eb)
+    ∙ or-comm (eqb id b) (amongFirst ids j b) ∙ ap (λ (n : ℕ). amongFirst ids n b) (sym (add-one j)))
+
+-- ---- the check of the first n entries
+
+module _ (p : Pool) (ids : List ℕ) where
+  pub list-none : listCheck p ids 0 ≡ fine
+  unfolding listCheck
+  list-none = refl
+
+  pub list-again : (v : Verdict) (k : ℕ) → listCheck p ids k ≡ fine → verdict v ≡ entryCheck p ids k → v ≡ Fine → listCheck p ids (k + 1) ≡ fine
+  unfolding listCheck first
+  list-again v k h e q = rw (add-one, h) (fine-by v e q)
+
+  stops : (n k number place : ℕ) → listCheck p ids k ≡ fine → entryCheck p ids k ≡ refuse number place → k < n → listCheck p ids n ≡ refuse number place
+  unfolding listCheck first
+  stops zero k number place h e l = absurd (omega arith)
+  stops (suc n) k number place h e l =
+      by-order n k
+      (λ m. let q : k ≡ n = omega arith in rw (← q, h) e)
+      (λ m. rw (stops n k number place h e m))
+
+  -- the first entry at fault decides
+  pub list-fault : (v : Verdict) (r : Refusal) (place k n : ℕ) → listCheck p ids k ≡ fine → verdict v ≡ entryCheck p ids k → v ≡ Fault r place → k < n
+      → refuse (numberOf r) place ≡ listCheck p ids n
+  list-fault v r place k n h e q l = sym (stops n k (numberOf r) place h (refuse-by v e r place q) l)
+
+  pub list-done : (k n : ℕ) → listCheck p ids k ≡ fine → k ≡ n → fine ≡ listCheck p ids n
+  list-done k n h e = cc
+
+-- ---- the record of an accepted give-up, by what the loops made
+
+pub given-up : (p : Pool) (k : ℕ) (ids st : List ℕ) (s : IdSet) → st ≡ table 256 (λ j. when (among ids (suc j)) 2 (getD (p .states) j 0)) → s ≡ setOf (among ids)
+    → answering accepted (withWorker k (to 12 (withI 0 (workerAt p k))) (withSet k s (withStates st p))) ≡ answering accepted (givingUp k ids p)
+given-up p k ids st s e h =
+    rw (
+      e,
+      h,
+      table-cong 256 (λ j. when (among ids (suc j)) 2 (getD (p .states) j 0)) (λ j. when (among ids (suc j)) 2 (stateOf p (suc j))) (λ j l.
+          ap (λ (n : ℕ). when (among ids (suc j)) 2 (getD (p .states) n 0)) (omega arith)),
+    )

@@ -1,0 +1,70 @@
+-- `pool::Pool::fire` meets its contract. Assumes nothing.
+use Rattle.pool.specs.Begins.{fireOf}
+use Rattle.pool.proofs.Told.{begins}
+use Rattle.pool.proofs.Checked.{indices}
+use borrow.Author.Needs.{needs}
+use Rattle.pool.proofs.Pool.fire.Statement.{statement}
+use Rattle.pool.proofs.Pool.fire.Tie as tie
+
+fire-check-requires : tie.Need-fire-check-requires
+fire-check-requires c κs = search needs
+
+enum-known-check : tie.Need-enum-known-check
+enum-known-check c = search needs
+
+enum-told : tie.Need-enum-told
+enum-told c = search needs
+
+cast-i : tie.Need-cast-i
+cast-i c = search needs
+
+mul-self : tie.Need-mul-self
+mul-self c = search needs
+
+element-write-self : tie.Need-element-write-self
+element-write-self c = search indices
+
+sub-k : tie.Need-sub-k
+sub-k c = search indices
+
+cast-k : tie.Need-cast-k
+cast-k c = search needs
+
+mul-me : tie.Need-mul-me
+mul-me c = search needs
+
+element-copy-out-me : tie.Need-element-copy-out-me
+element-copy-out-me c = search indices
+
+mul-me-2 : tie.Need-mul-me-2
+mul-me-2 c = search needs
+
+element-set-from-me : tie.Need-element-set-from-me
+element-set-from-me c = search indices
+
+returns : tie.Need-returns
+unfolding fireOf
+returns c = search begins depth 12
+
+returns-2 : tie.Need-returns-2
+unfolding fireOf
+returns-2 c = search begins depth 12
+
+pub fire-spec : {M : Type 1} → statement M
+fire-spec =
+    tie.close
+    (tie.spec
+    fire-check-requires
+    enum-known-check
+    enum-told
+    cast-i
+    mul-self
+    element-write-self
+    sub-k
+    cast-k
+    mul-me
+    element-copy-out-me
+    mul-me-2
+    element-set-from-me
+    returns
+    returns-2)
