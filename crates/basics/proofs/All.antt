@@ -1,5 +1,5 @@
 -- The laws of `allBelow`: of a loop that asks one more, of each entry, and of an entry replaced. Assumes nothing.
-use Prim.Native.Nat.{ℕ, zero, suc, _+_, _<_}
+use Prim.Native.Nat.{ℕ, zero, suc, _+_, _≤_, _<_}
 use mathlib.Core.Path.{_≡_, refl, sym, ap, ap₂, subst, _∙_}
 use mathlib.Core.Bool.{Bool, true, false, _&&_, _||_, and-assoc, and-true, or-and-distrib-left}
 use mathlib.Core.List.{List}
@@ -9,9 +9,9 @@ use native.Mathlib.Omega.{arith}
 use lib.Dec.{ltb, eqb}
 use lib.ListN.{length, getD, set}
 use lib.Seq.{getD-set-same, getD-set-other, set-out}
-use borrow.Author.Tests.{ltb-true, ltb-false, eqb-true, eqb-false}
+use borrow.Author.Tests.{ltb-true, ltb-false, lt-ltb, eqb-true, eqb-false}
 use Rattle.basics.specs.Below.{allBelow}
-use Rattle.basics.proofs.Truth.{and-left, and-right, and-swap}
+use Rattle.basics.proofs.Truth.{and-left, and-right, and-swap, by-order}
 
 -- before the first turn of a loop, after one more, and after the last
 pub all-none : (f : ℕ → Bool) → true ≡ allBelow 0 f
@@ -88,6 +88,15 @@ module _ {A : Type 0} where
       → f i a ≡ true → allBelow n (λ k. f k (getD (set l i a) k d)) ≡ true
   all-set n f l i a d h new =
       all-of n (λ k. f k (getD (set l i a) k d)) (λ k b. entry f l i a d new k (all-at n (λ k. f k (getD l k d)) h k b) (eqb k i) refl)
+
+-- entries below the count pass, and those from it on answer as before
+pub all-beyond : (n count : ℕ) (f g : ℕ → Bool) → allBelow n (λ k. ltb k count || f k) ≡ true → ((k : ℕ) → count ≤ k → g k ≡ f k)
+    → allBelow n (λ k. ltb k count || g k) ≡ true
+all-beyond n count f g h same =
+    all-of n (λ k. ltb k count || g k) (λ k l.
+    by-order count k
+    (λ b. ap (λ (t : Bool). ltb k count || t) (same k b) ∙ all-at n (λ k. ltb k count || f k) h k l)
+    (λ b. rw (lt-ltb k count b)))
 
 -- for the needs of a loop that asks every entry: `search (needs, scans)`
 pub ruleset scans = (all-none, all-again, all-done)

@@ -1,11 +1,16 @@
 -- The laws of `anyBelow` and of `among`. Assumes nothing.
 use Prim.Native.Nat.{ℕ, zero, suc, _+_, _<_}
-use mathlib.Core.Path.{_≡_, refl, ap₂}
-use mathlib.Core.Bool.{Bool, true, false, _||_, or-true}
+use mathlib.Core.Path.{_≡_, refl, ap₂, subst}
+use mathlib.Core.Bool.{Bool, true, false, _||_, or-true, false≢true}
+use mathlib.Core.List.{List}
 use native.Mathlib.Numerals.{add-one}
 use native.Mathlib.Omega.{arith}
+use lib.Dec.{eqb}
+use lib.ListN.{length, getD}
+use borrow.Author.Tests.{eqb-true}
 use Rattle.basics.specs.Below.{anyBelow}
-use Rattle.basics.proofs.Truth.{by-order}
+use Rattle.basics.specs.Among.{among}
+use Rattle.basics.proofs.Truth.{or-cases, by-order}
 
 -- before the first turn of a loop, after one more, and after the last
 pub any-none : (f : ℕ → Bool) → false ≡ anyBelow 0 f
@@ -32,6 +37,16 @@ any-true (suc n) f i l e =
     by-order n i
     (λ h. let s : i ≡ n = omega arith in rw (← s, e) (or-true (anyBelow i f)))
     (λ h. rw (any-true n f i h e))
+
+-- one that passes, where some one does
+pub any-at : (n : ℕ) (f : ℕ → Bool) {P : Type 0} → anyBelow n f ≡ true → ((i : ℕ) → i < n → f i ≡ true → P) → P
+unfolding anyBelow
+any-at zero f h g = absurd (false≢true h)
+any-at (suc n) f h g = or-cases (anyBelow n f) (f n) h (λ e. any-at n f e (λ i l. g i (omega arith))) (g n (omega arith))
+
+-- what each entry of a list is, a number among them is
+pub among-each : (P : ℕ → Type 0) (l : List ℕ) → ((k : ℕ) → k < length l → P (getD l k 0)) → (x : ℕ) → among l x ≡ true → P x
+among-each P l h x e = any-at (length l) (λ j. eqb (getD l j 0) x) e (λ k b q. subst P (eqb-true (getD l k 0) x q) (h k b))
 
 pub any-cong : (n : ℕ) (f g : ℕ → Bool) → ((i : ℕ) → i < n → f i ≡ g i) → anyBelow n f ≡ anyBelow n g
 unfolding anyBelow

@@ -1,6 +1,6 @@
 -- Truth values: what a chain of tests tells, and two tests that agree. Assumes nothing.
 use mathlib.Core.Path.{_≡_, refl, sym, _∙_}
-use mathlib.Core.Bool.{Bool, true, false, _&&_, false≢true, and-assoc, and-comm}
+use mathlib.Core.Bool.{Bool, true, false, _&&_, _||_, false≢true, and-assoc, and-comm}
 use mathlib.Core.List.{List, [], _∷_}
 use Prim.Native.Nat.{ℕ, _≤_, _<_}
 use native.Mathlib.Nat.{lt-of-not-le}
@@ -15,6 +15,10 @@ and-left false b h = h
 pub and-right : (a b : Bool) → (a && b) ≡ true → b ≡ true
 and-right true b h = h
 and-right false b h = absurd (false≢true h)
+
+pub or-cases : (a b : Bool) {P : Type 0} → (a || b) ≡ true → (a ≡ true → P) → (b ≡ true → P) → P
+or-cases true b h f g = f refl
+or-cases false b h f g = g h
 
 -- the second test counts only where the first holds
 pub and-cong : (x : Bool) {y z : Bool} → (x ≡ true → y ≡ z) → (x && y) ≡ (x && z)

@@ -30,7 +30,7 @@ unfolding first
 first-both fine b h = (refl, h)
 first-both (refuse n place) b h = let z : _≡_ {A = ℕ} 0 1 = cc in absurd (omega arith)
 
-never : {n place : ℕ} → refuse n place ≡ fine → ⊥
+pub never : {n place : ℕ} → refuse n place ≡ fine → ⊥
 never h = let z : _≡_ {A = ℕ} 0 1 = cc in omega arith
 
 -- ---- the record is sound

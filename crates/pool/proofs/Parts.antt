@@ -1,13 +1,16 @@
 -- A sound record, rule by rule and array by array. Assumes nothing.
 use mathlib.Core.Path.{_≡_}
-use mathlib.Core.Bool.{true}
+use mathlib.Core.Bool.{Bool, true, not, _&&_, _||_}
 use mathlib.Core.List.{[], _∷_}
-use Prim.Native.Nat.{suc, _≤_, _<_}
+use Prim.Native.Nat.{ℕ, suc, _≤_, _<_}
 use native.Mathlib.Omega.{arith}
-use lib.Dec.{leb, ltb}
+use lib.Dec.{eqb, leb, ltb}
 use borrow.Author.Tests.{leb-true, ltb-true}
 use Rattle.basics.specs.Below.{allBelow}
 use Rattle.basics.proofs.Truth.{each}
+use Rattle.basics.proofs.All.{all-at}
+use Rattle.idset.specs.Members.{withinOf}
+use Rattle.worker.specs.declared.Worker.{Worker}
 use Rattle.pool.specs.declared.Pool.{Pool}
 use Rattle.pool.specs.Record.{employerAt, stateOf, workerAt, setAt}
 use Rattle.pool.specs.Sound.{countsSound, guardsBeyond, buffersBeyond, workersBeyond, beyondSound, isLabel, kindsSound, guardIds, workerIds, idsSound, registersIn, registersSound, soundOf}
@@ -67,3 +70,48 @@ pub sizes-of : (p : Pool) → soundOf p ≡ true → Sizes p
 sizes-of p h =
     let e = each (leb 1 (p .w)) (leb (p .w) 8 ∷ leb 1 (p .g) ∷ leb (p .g) 32 ∷ leb 1 (p .b) ∷ leb (p .b) 256 ∷ ltb (p .maxg) (p .g) ∷ []) (parts h .counts) in
     omega (arith, leb-true, ltb-true)
+
+-- ---- a worker's ids and registers, as plain tests
+
+-- the two rules of `registersIn` that look at the label: on i, and on attempts
+abbrev pub placeIn : ℕ → Worker → Bool
+placeIn g x = ltb (x .i) g || (eqb (x .label) 12 || eqb (x .label) 32) && eqb (x .i) g
+
+-- a label at which attempts may be 3
+abbrev pub threeAt : ℕ → Bool
+threeAt label = not (eqb label 15 || eqb label 18 || eqb label 22 || eqb label 25)
+
+abbrev pub triesIn : Worker → Bool
+triesIn x = leb (x .attempts) 2 || threeAt (x .label)
+
+pub record InUse (p : Pool) (k : ℕ) : Type 0 where
+  pub label : isLabel (workerAt p k .label) ≡ true
+  pub v : leb (workerAt p k .v) (p .b) ≡ true
+  pub h : leb (workerAt p k .h .id) (p .b) ≡ true
+  pub members : withinOf (setAt p k) (p .b) ≡ true
+  pub place : placeIn (p .g) (workerAt p k) ≡ true
+  pub max : ltb (workerAt p k .max) (p .g) ≡ true
+  pub attempts : leb (workerAt p k .attempts) 3 ≡ true
+  pub tries : triesIn (workerAt p k) ≡ true
+
+pub worker-in : {p : Pool} → Parts p → (k : ℕ) → k < p .w → InUse p k
+worker-in {p} s k l =
+    let sizes = sizes-of p (whole s) in
+    let l8 : k < 8 = omega arith in
+    let x = workerAt p k in
+    let ids =
+    each (leb (x .v) (p .b)) (leb (x .h .id) (p .b) ∷ withinOf (setAt p k) (p .b) ∷ [])
+    (all-at 8 (λ k. workerIds (p .b) (workerAt p k) (setAt p k)) (s .worker-ids) k l8) in
+    let registers =
+    each (placeIn (p .g) x) (ltb (x .max) (p .g) ∷ leb (x .attempts) 3 ∷ triesIn x ∷ [])
+    (all-at 8 (λ k. registersIn (p .g) (workerAt p k)) (s .registers) k l8) in
+    record {
+      label = all-at 8 (λ k. isLabel (workerAt p k .label)) (s .labels) k l8;
+      v = ids .0;
+      h = ids .1 .0;
+      members = ids .1 .1;
+      place = registers .0;
+      max = registers .1 .0;
+      attempts = registers .1 .1 .0;
+      tries = registers .1 .1 .1;
+    }

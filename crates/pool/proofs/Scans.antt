@@ -1,5 +1,5 @@
 -- The scans of the soundness test make up the rules, in whatever order each is asked. Assumes nothing.
-use mathlib.Core.Path.{_≡_, ap, _∙_}
+use mathlib.Core.Path.{_≡_, ap, ap₂, _∙_}
 use mathlib.Core.Bool.{Bool, not, _&&_, _||_}
 use mathlib.Core.List.{List}
 use Prim.Native.Nat.{ℕ, suc}
@@ -37,7 +37,7 @@ module _ (p : Pool) where
       (all-or-and 32 used (λ i. not (takenAt p i)) (λ i. eqb (employerAt p i) 0))))
 
   -- entry k of the states is that of buffer k + 1
-  entry : (k : ℕ) → getD (p .states) k 0 ≡ stateOf p (suc k)
+  pub entry : (k : ℕ) → getD (p .states) k 0 ≡ stateOf p (suc k)
   entry k = ap (λ (n : ℕ). getD (p .states) n 0) (omega arith)
 
   buffers-beyond : allBelow 256 (zeroFrom (p .states) (p .b)) ≡ allBelow 256 (buffersBeyond p)
@@ -45,6 +45,9 @@ module _ (p : Pool) where
 
   states-most : allBelow 256 (most (p .states) 2) ≡ allBelow 256 (λ k. leb (stateOf p (suc k)) 2)
   states-most = all-cong 256 (most (p .states) 2) (λ k. leb (stateOf p (suc k)) 2) (λ k l. ap (λ (x : ℕ). leb x 2) (entry k))
+
+  pub states-fit : allBelow 256 (fits (p .states) 2 (p .b)) ≡ (allBelow 256 (λ k. leb (stateOf p (suc k)) 2) && allBelow 256 (buffersBeyond p))
+  states-fit = fits-two 256 (p .states) 2 (p .b) ∙ ap₂ _&&_ states-most buffers-beyond
 
   abbrev label : ℕ → Bool
   label k = isLabel (workerAt p k .label)
@@ -75,7 +78,7 @@ scanned : (p : Pool)
     && allBelow 8 (workerFitsAt (p .w) (p .g) (p .b) (p .workers) (p .sets))) ≡ soundOf p
 unfolding soundOf beyondSound kindsSound idsSound registersSound
 scanned p =
-    rw (fits-two 32 (p .employer) (p .w) (p .g), fits-two 32 (p .posted) (p .b) (p .g), fits-two 32 (p .«slot_id») (p .b) (p .g), fits-two 256 (p .states) 2 (p .b), buffers-beyond p, states-most p, workers-four p, guards-beyond p, all-and 32 (most (p .posted) (p .b)) (most (p .«slot_id») (p .b)))
+    rw (fits-two 32 (p .employer) (p .w) (p .g), fits-two 32 (p .posted) (p .b) (p .g), fits-two 32 (p .«slot_id») (p .b) (p .g), states-fit p, workers-four p, guards-beyond p, all-and 32 (most (p .posted) (p .b)) (most (p .«slot_id») (p .b)))
     (reordered (countsSound p)
     (allBelow 32 (untakenFrom (p .taken) (p .g)))
     (allBelow 32 (zeroFrom (p .employer) (p .g)))

@@ -6,4 +6,6 @@ pub mod Make
 pub mod Checks
 pub mod Begins
 pub mod Questions
+pub mod Steps
+pub mod Ready
 pub mod Scans

@@ -4,6 +4,7 @@
 mod answers;
 mod begins;
 mod checks;
+mod lines;
 mod make;
 mod sound;
 

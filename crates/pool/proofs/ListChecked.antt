@@ -1,0 +1,46 @@
+-- What is known of each entry of a give-up list once its check has found nothing. Assumes nothing.
+use mathlib.Core.Path.{_≡_}
+use mathlib.Core.Bool.{true, false}
+use mathlib.Core.List.{List}
+use Prim.Native.Nat.{ℕ, zero, suc, _<_}
+use native.Mathlib.Omega.{arith}
+use lib.Dec.{eqb}
+use lib.ListN.{length, getD}
+use borrow.Author.Tests.{eqb-true}
+use Rattle.basics.specs.Among.{amongFirst, among}
+use Rattle.basics.proofs.Picks.{when-back, unless-back}
+use Rattle.basics.proofs.Truth.{by-order}
+use Rattle.basics.proofs.Any.{among-each}
+use Rattle.pool.specs.declared.Pool.{Pool}
+use Rattle.pool.specs.Answers.{fine, refuse}
+use Rattle.pool.specs.Record.{stateOf}
+use Rattle.pool.specs.Checks.{idCheck, entryCheck, listCheck}
+use Rattle.pool.proofs.Checked.{first-both, never, Buffer, buffer}
+
+-- entry k names a buffer that is in service, and no earlier entry does
+pub record Listed (p : Pool) (ids : List ℕ) (k : ℕ) : Type 0 where
+  pub names : Buffer p (getD ids k 0)
+  pub in-service : stateOf p (getD ids k 0) ≡ 1
+  pub first-named : amongFirst ids k (getD ids k 0) ≡ false
+
+module _ (p : Pool) (ids : List ℕ) where
+  pub entry-listed : (k : ℕ) → entryCheck p ids k ≡ fine → Listed p ids k
+  unfolding entryCheck
+  entry-listed k h =
+      let id = getD ids k 0 in
+      let a = first-both (idCheck p id k) _ h in
+      let b = when-back (amongFirst ids k id) fine (refuse 10 k) _ never (a .1) in
+      let c = unless-back (eqb (stateOf p id) 1) fine (refuse 11 k) fine never (b .1) in
+      record { names = buffer p id k (a .0); in-service = eqb-true _ _ (c .0); first-named = b .0 }
+
+  pub listed : (n : ℕ) → listCheck p ids n ≡ fine → (k : ℕ) → k < n → Listed p ids k
+  unfolding listCheck
+  listed zero h k l = absurd (omega arith)
+  listed (suc n) h k l =
+      let a = first-both (listCheck p ids n) (entryCheck p ids n) h in
+      by-order n k
+      (λ b. let q : k ≡ n = omega arith in rw q (entry-listed n (a .1)))
+      (λ b. listed n (a .0) k b)
+
+  pub listed-buffer : listCheck p ids (length ids) ≡ fine → (id : ℕ) → among ids id ≡ true → Buffer p id
+  listed-buffer h = among-each (Buffer p) ids (λ k l. listed (length ids) h k l .names)
