@@ -11,3 +11,4 @@ pub mod Kept
 pub mod BeginsKept
 pub mod Refused
 pub mod Closings
+pub mod Dispatch
