@@ -5,7 +5,9 @@ use mathlib.Core.Bool.{Bool, true, false, _||_}
 use native.Mathlib.Nat.{add-zero, add-suc}
 use native.Mathlib.Numerals.{add-one}
 use native.Mathlib.Omega.{arith}
-use lib.Dec.{eqb}
+use lib.Dec.{T, eqb, leb, lit≤}
+use mir.Syntax.{w32}
+use mir.Val.{Fits, boolByte}
 use borrow.Author.Tests.{eq-eqb, ne-eqb}
 use Rattle.basics.specs.Below.{one, countBelow}
 use Rattle.basics.proofs.Truth.{by-order}
@@ -76,3 +78,28 @@ count-more (suc n) f g j h e w =
     (λ l.
     let here : one (g n) ≡ one (f n) = ap one (w n (omega arith) ∙ ap (λ (t : Bool). t || f n) (ne-eqb n j (λ z. omega arith))) in
     omega (arith, count-more n f g j l e (λ k m. w k (omega arith))))
+
+-- ---- a loop that adds each test as code makes a number of it: before the first turn, after one more, and after the last
+
+pub byte-one : (t : Bool) → boolByte t ≡ one t
+byte-one true = refl
+byte-one false = refl
+
+pub byte-le : (t : Bool) (n k : ℕ) → n ≤ k → n + boolByte t ≤ k + 1
+byte-le true n k h = omega arith
+byte-le false n k h = omega arith
+
+pub byte-fits : (t : Bool) (n k m : ℕ) → n ≤ k → k ≤ m → T (leb m 256) → Fits w32 (n + boolByte t)
+byte-fits t n k m h l e = let b : m ≤ 256 = lit≤ e in record { fits = omega (arith, byte-le t n k h) }
+
+pub tally-none : (f : ℕ → Bool) → 0 ≡ countBelow 0 f
+tally-none f = sym (count-none f)
+
+pub tally-again : (k : ℕ) (f : ℕ → Bool) {n : ℕ} {t : Bool} → n ≡ countBelow k f → t ≡ f k → n + boolByte t ≡ countBelow (k + 1) f
+tally-again k f h e = rw (h, e, byte-one (f k)) (sym (count-again k f))
+
+pub tally-done : (f : ℕ → Bool) {k m n : ℕ} → n ≡ countBelow k f → k ≡ m → n ≡ countBelow m f
+tally-done f h e = cc
+
+-- for the needs of such a loop: `search (needs, tallies)`
+pub ruleset tallies = (byte-le, byte-fits, tally-none, tally-again, tally-done)

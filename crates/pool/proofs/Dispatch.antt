@@ -90,5 +90,9 @@ module _ (k : ℕ) (p : Pool) (room : ℕ) where
   pub handed-back : (n : ℕ) (st : List ℕ) → n ≡ sizeOf (setAt p k) → st ≡ table 256 (λ j. when (memberOf (setAt p k) (suc j)) 0 (getD (p .states) j 0))
       → ends k (back n) (withStates st p) ≡ line32 k p
   handed-back n st e h =
-      rw (e, h, table-cong 256 (λ j. when (memberOf (setAt p k) (suc j)) 0 (getD (p .states) j 0)) (λ j. when (memberOf (setAt p k) (suc j)) 0 (stateOf p (suc j))) (λ j l.
-      ap (λ (x : ℕ). when (memberOf (setAt p k) (suc j)) 0 x) (entry p j)))
+      rw (
+        e,
+        h,
+        table-cong 256 (λ j. when (memberOf (setAt p k) (suc j)) 0 (getD (p .states) j 0)) (λ j. when (memberOf (setAt p k) (suc j)) 0 (stateOf p (suc j))) (λ j l.
+            ap (λ (x : ℕ). when (memberOf (setAt p k) (suc j)) 0 x) (entry p j)),
+      )

@@ -12,3 +12,4 @@ pub mod BeginsKept
 pub mod Refused
 pub mod Closings
 pub mod Dispatch
+pub mod Audit

@@ -56,6 +56,16 @@ pub answer-refuse : (v : Verdict) (r : Refusal) (place : ℕ) (a : Check) (s : S
 unfolding answerAfter
 answer-refuse v r place a s e q = rw (refuse-by v e r place q)
 
+-- ---- a check that the code makes itself, by a test
+
+pub answer-passed : (x : Said) (a : Check) (s : Said) → fine ≡ a → x ≡ s → x ≡ answerAfter a s
+unfolding answerAfter
+answer-passed x a s e h = rw (← e) h
+
+pub answer-failed : (n place : ℕ) (a : Check) (s : Said) → refuse n place ≡ a → refused n place ≡ answerAfter a s
+unfolding answerAfter
+answer-failed n place a s e = rw (← e)
+
 -- the check of soundness alone is a test, not a call
 pub sound-first : (p : Pool) (b : Check) → first (soundCheck p) b ≡ unless (soundOf p) (refuse 2 0) b
 unfolding first unless
@@ -71,4 +81,4 @@ pub ruleset checks = (picks, first-fine, first-refuse)
 
 pub ruleset begins = (picks, after-fine, after-refuse, same-pool, same-answer)
 
-pub ruleset answers = (picks, answer-fine, answer-refuse)
+pub ruleset answers = (picks, answer-fine, answer-refuse, answer-passed, answer-failed)

@@ -6,6 +6,7 @@ mod begins;
 mod checks;
 mod lines;
 mod make;
+mod questions;
 mod sound;
 
 use idset::IdSet;
