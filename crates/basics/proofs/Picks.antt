@@ -24,6 +24,17 @@ module _ {ℓ} {A : Type ℓ} where
   unfolding unless
   unless-no t x a b h e = rw h e
 
+  -- what holds of each arm where its test leads there holds of the choice
+  pub when-both : (P : A → Type 0) (t : Bool) (a b : A) → (t ≡ true → P a) → (t ≡ false → P b) → P (when t a b)
+  unfolding when
+  when-both P true a b f g = f refl
+  when-both P false a b f g = g refl
+
+  pub unless-both : (P : A → Type 0) (t : Bool) (a b : A) → (t ≡ false → P a) → (t ≡ true → P b) → P (unless t a b)
+  unfolding unless
+  unless-both P true a b f g = g refl
+  unless-both P false a b f g = f refl
+
   -- what a choice that came out as x tells of its test, where the other arm is not x
   pub when-back : (t : Bool) (x a b : A) → (a ≡ x → ⊥) → when t a b ≡ x → (t ≡ false) × (b ≡ x)
   unfolding when

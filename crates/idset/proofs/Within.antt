@@ -7,14 +7,14 @@ use native.Mathlib.Omega.{arith}
 use lib.Dec.{eqb, leb, ltb, lit<}
 use lib.ListN.{getD}
 use lib.Pow.{pow-pos, pow-mono, shr-le}
-use borrow.Author.Tests.{le-leb, leb-true, lt-ltb, ltb-true, ltb-false, eq-eqb, ne-eqb}
+use borrow.Author.Tests.{le-leb, leb-true, lt-ltb, ltb-true, ltb-false, eq-eqb, ne-eqb, eqb-true}
 use Rattle.basics.specs.Below.{allBelow}
-use Rattle.basics.proofs.Truth.{both, by-order, is-false}
+use Rattle.basics.proofs.Truth.{and-right, or-cases, both, by-order, is-false}
 use Rattle.basics.proofs.All.{all-at, all-of, all-cong, all-split}
 use Rattle.idset.specs.declared.IdSet.{IdSet}
-use Rattle.idset.specs.Members.{digit, memberOf, withinOf}
+use Rattle.idset.specs.Members.{digit, isId, memberOf, withOf, withoutOf, withinOf}
 use Rattle.idset.proofs.Digits.{digits-ext, digit-shr, digit-none, digit-short}
-use Rattle.idset.proofs.Members.{Formed, id-low, id-high, member-id, member-at}
+use Rattle.idset.proofs.Members.{Formed, id-low, id-high, member-id, member-at, member-with, member-without}
 use Rattle.idset.proofs.Size.{pred-id}
 
 -- ---- every member is at most a
@@ -35,6 +35,18 @@ within-all s a f = all-of 256 (λ k. not (memberOf s (suc k)) || leb (suc k) a) 
     go : (b : ℕ) (t : Bool) → memberOf s b ≡ t → (not t || leb b a) ≡ true
     go b true e = le-leb b a (f b e)
     go b false e = refl
+
+pub with-within : (s : IdSet) (a most : ℕ) → withinOf s most ≡ true → a ≤ most → withinOf (withOf s a) most ≡ true
+with-within s a most h l =
+    within-all (withOf s a) most (λ b m.
+    or-cases (eqb b a) (memberOf s b) (and-right (isId b) (eqb b a || memberOf s b) (sym (member-with s a b) ∙ m))
+    (λ e. omega (arith, eqb-true b a e))
+    (within-true s most h b))
+
+pub without-within : (s : IdSet) (a most : ℕ) → withinOf s most ≡ true → withinOf (withoutOf s a) most ≡ true
+without-within s a most h =
+    within-all (withoutOf s a) most (λ b m.
+    within-true s most h b (and-right (not (eqb b a)) (memberOf s b) (sym (member-without s a b) ∙ m)))
 
 -- ---- a word has no digit at n or above exactly when a shift by n leaves nothing
 

@@ -54,7 +54,7 @@ blank-fresh w g b =
       empty = λ k id h. ap (λ (s : IdSet). memberOf s id) (set-of-blank w g b k h) ∙ member-none id;
     }
 
-none-within : (a : ℕ) → withinOf noIds a ≡ true
+pub none-within : (a : ℕ) → withinOf noIds a ≡ true
 none-within a = within-all noIds a (λ b m. absurd (let z : _≡_ {A = Bool} false true = sym (member-none b) ∙ m in let n : _≡_ {A = ℕ} 0 1 = cc in omega arith))
 
 or-right : (t x : Bool) → x ≡ true → (t || x) ≡ true

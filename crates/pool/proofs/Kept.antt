@@ -94,7 +94,7 @@ module _ {p : Pool} (s : Parts p) where
         ) buffers workers
 
     -- both ids of guard i are in range
-    guard-in : (leb (postedAt p i) (p .b) ≡ true) × (leb (slotAt p i .id) (p .b) ≡ true)
+    pub guard-in : (leb (postedAt p i) (p .b) ≡ true) × (leb (slotAt p i .id) (p .b) ≡ true)
     guard-in =
         let sizes = sizes-of p (whole s) in
         each (leb (postedAt p i) (p .b)) (leb (slotAt p i .id) (p .b) ∷ []) (all-at 32 (guardIds p) (s .guard-ids) i (omega arith))

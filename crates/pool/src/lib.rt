@@ -1,9 +1,11 @@
 // The pool engine. One record goes into each call by value and comes back beside the answer, so whoever holds a pool decides which
 // call comes next. Every call takes any record and any arguments; what is wrong with them is answered by a refusal, and then nothing
 // has changed.
+mod advance;
 mod answers;
 mod begins;
 mod checks;
+mod handback;
 mod lines;
 mod make;
 mod questions;
