@@ -1,5 +1,5 @@
 -- From the line that a label takes to the table, and from what the hand-back's loops made to label 32. Assumes nothing.
-use mathlib.Core.Path.{_≡_, refl, sym, ap, _∙_}
+use mathlib.Core.Path.{_≡_, refl, ap}
 use mathlib.Core.Bool.{Bool, true, false, not, _||_}
 use mathlib.Core.List.{List}
 use Prim.Native.Nat.{ℕ, suc, _-_, _≤_, _<_}
@@ -11,7 +11,6 @@ use Rattle.basics.specs.Pick.{when, unless}
 use Rattle.basics.specs.Below.{allBelow, table}
 use Rattle.basics.proofs.All.{all-cong}
 use Rattle.basics.proofs.Table.{table-cong}
-use Rattle.idset.specs.declared.IdSet.{IdSet}
 use Rattle.idset.specs.Members.{memberOf, sizeOf}
 use Rattle.worker.specs.declared.Worker.{Worker}
 use Rattle.worker.specs.declared.Stepped.{Stepped}
