@@ -12,15 +12,15 @@ use Rattle.basics.proofs.Table.{table-at}
 use Rattle.basics.proofs.Truth.{is-false}
 use Rattle.idset.specs.Members.{memberOf}
 use Rattle.worker.specs.declared.Slot.{Slot}
 use Rattle.pool.specs.declared.Pool.{Pool}
 use Rattle.pool.specs.declared.WorkerNo.{WorkerNo}
 use Rattle.pool.specs.Answers.{Check, fine, refuse, Told, afterCheck}
 use Rattle.pool.specs.Record.{takenAt, employerAt, postedAt, slotAt, stateOf, workerAt, setAt, withSlot}
 use Rattle.pool.specs.Steps.{iOf, puts, ends, line2, line18, line28, freed, lineOf, standCheck, advanceCheck, advanceOf}
 use Rattle.pool.specs.Ready.{Stands}
 use Rattle.pool.proofs.Checked.{first-both}
 use Rattle.pool.proofs.Standing.{stands, last-label}
-use Rattle.pool.proofs.EachLine.{by-line}
+use Rattle.rules.proofs.EachLine.{by-line}
 
 -- q is p after an advance of worker k + 1: the counts are the same, and so are MAXG but at 5, every other worker, every guard but i, and every
 -- buffer but those of the set at 32

@@ -14,19 +14,19 @@ use Rattle.idset.specs.Members.{isId, withinOf, setOf}
 use Rattle.idset.proofs.Members.{member-setOf}
 use Rattle.idset.proofs.Within.{within-all}
 use Rattle.worker.specs.Registers.{to, withI, withV}
 use Rattle.pool.specs.declared.Pool.{Pool}
 use Rattle.pool.specs.declared.WorkerNo.{WorkerNo}
 use Rattle.pool.specs.declared.GuardNo.{GuardNo}
 use Rattle.pool.specs.declared.BufferId.{BufferId}
 use Rattle.pool.specs.Answers.{Check, fine, refuse, Told, afterCheck}
 use Rattle.pool.specs.Record.{workerAt, withWorker, withStates}
 use Rattle.pool.specs.Sound.{isLabel, soundOf}
 use Rattle.pool.specs.Checks.{beginCheck, listCheck, fireCheck, postCheck, giveUpCheck, takeCheck, askCheck}
 use Rattle.pool.specs.Begins.{leaving, hireOf, fireOf, postOf, giveUpOf, takeOf, askOf}
 use Rattle.pool.proofs.Parts.{Parts, parts, whole, threeAt, worker-in}
 use Rattle.pool.proofs.Checked.{begun, fires, posts, gives-up, takes}
-use Rattle.pool.proofs.ListChecked.{listed-buffer}
-use Rattle.pool.proofs.Kept.{worker-kept, set-kept, employer-kept, some-states-kept, state-kept}
+use Rattle.rules.proofs.ListChecked.{listed-buffer}
+use Rattle.rules.proofs.Kept.{worker-kept, set-kept, employer-kept, some-states-kept, state-kept}
 
 -- a refusal hands the record back
 pub after-kept : (c : Check) (p : Pool) (d : Told) → soundOf p ≡ true → (c ≡ fine → Parts (d .pool)) → soundOf (afterCheck c p d .pool) ≡ true

@@ -8,15 +8,15 @@ use lib.Dec.{eqb}
 use lib.ListN.{length}
 use Rattle.basics.proofs.Picks.{when-no, when-both, unless-both}
 use Rattle.worker.specs.declared.Worker.{Worker}
 use Rattle.pool.specs.declared.Pool.{Pool}
 use Rattle.pool.specs.declared.WorkerNo.{WorkerNo}
 use Rattle.pool.specs.declared.GuardNo.{GuardNo}
 use Rattle.pool.specs.declared.BufferId.{BufferId}
 use Rattle.pool.specs.Answers.{Said, Check, fine, refuse, Told, afterCheck, accepted, none-found, fired, posted, label, guard, back, refused}
 use Rattle.pool.specs.Checks.{workerOf, beginCheck, fireCheck, postCheck, giveUpCheck, takeCheck, askCheck}
 use Rattle.pool.specs.Begins.{hireOf, fireOf, postOf, giveUpOf, takeOf, askOf}
 use Rattle.pool.specs.Steps.{puts, ends, line2, line18, line28, lineOf, advanceCheck, advanceOf, listAfterCheck, listAfter}
-use Rattle.pool.proofs.EachLine.{by-line}
+use Rattle.rules.proofs.EachLine.{by-line}
 
 -- two constructors are never equal: of such an equation `cc` makes this one
 apart : _≡_ {A = ℕ} 0 1 → ⊥

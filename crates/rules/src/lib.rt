@@ -1,0 +1,1 @@
+// No code: theorems about the pool's definitions are in specs/ and proofs/.
