@@ -12,7 +12,8 @@ use Rattle.pool.specs.Sound.{soundOf, beyondSound, kindsSound, idsSound, regist
 use Rattle.pool.specs.Checks.{workerCheck, beginCheck, guardCheck, idCheck, postCheck, entryCheck, listCheck, giveUpCheck, takeCheck}
 use Rattle.pool.specs.Begins.{hireOf, postOf, giveUpOf, takeOf}
 use Rattle.pool.specs.Steps.{puts, ends, line2, line18, line28, lineOf, handCheck, lineCheck, standCheck, advanceCheck, advanceOf, handed, listAfterCheck, listAfter}
-use Rattle.rules.specs.Cases.{Hold, all-held, holds, call, listOf, after, answers, listAtEnd, left, shownFrom, shown, advances, case1, case2, case3, case4, case5, case6, case7, case8, case9a, case9b, case10, starred}
+use Rattle.rules.specs.Calls.{call, listOf, after}
+use Rattle.rules.specs.Cases.{Hold, all-held, holds, answers, listAtEnd, left, shownFrom, shown, advances, case1, case2, case3, case4, case5, case6, case7, case8, case9a, case9b, case10, starred}
 
 show-case1 : shown case1 ≡ case1 .expected
 unfolding when unless allBelow anyBelow countBelow table digit isId memberOf pack wordOf setOf noIds withOf withoutOf sizeOf withinOf idsOf above membersOf at22 first afterCheck soundOf beyondSound kindsSound idsSound registersSound workerCheck beginCheck guardCheck idCheck postCheck entryCheck listCheck giveUpCheck takeCheck hireOf postOf giveUpOf takeOf puts ends line2 line18 line28 lineOf handCheck lineCheck standCheck advanceCheck advanceOf handed listAfterCheck listAfter call listOf after answers listAtEnd shownFrom advances shown case1

@@ -7,42 +7,15 @@ use Rattle.worker.specs.declared.Slot.{Slot}
 use Rattle.worker.specs.declared.Worker.{Worker}
 use Rattle.worker.specs.Registers.{noWorker, to, withV, withH, withAttempts}
 use Rattle.pool.specs.declared.Pool.{Pool}
-use Rattle.pool.specs.Answers.{Said, Told, accepted, label, guard, none-found, posted, back}
+use Rattle.pool.specs.Answers.{Said, accepted, label, guard, none-found, posted, back}
 use Rattle.pool.specs.Record.{slotAt, workerAt, blank, withTaken, withPosted, withSlot, withWorker}
-use Rattle.pool.specs.Begins.{hireOf, postOf, giveUpOf, takeOf}
-use Rattle.pool.specs.Steps.{advanceOf, listAfter}
+use Rattle.rules.specs.Calls.{Call, hiring, posting, giving-up, taking, advancing, call, listOf, after}
 
--- ---- calls, and what is seen of a run
-
-pub data Call : Type 0 where
-  taking : ℕ → Call
-  hiring : ℕ → Call
-  posting : ℕ → ℕ → ℕ → Call
-  giving-up : ℕ → List ℕ → Call
-  advancing : ℕ → Call
+-- ---- what is seen of a run
 
 -- an advance is lent a list of three zeros
 abbrev pub lent : List ℕ
 lent = 0 ∷ 0 ∷ 0 ∷ []
-
-unfoldable pub call : Call → Pool → Told
-call (taking b) p = takeOf p (record { 0 = b })
-call (hiring w) p = hireOf p (record { 0 = w })
-call (posting w g b) p = postOf p (record { 0 = w }) (record { 0 = g }) (record { 0 = b })
-call (giving-up w ids) p = giveUpOf p (record { 0 = w }) ids
-call (advancing w) p = advanceOf p (record { 0 = w }) lent
-
-unfoldable pub listOf : Call → Pool → List ℕ
-listOf (taking b) p = lent
-listOf (hiring w) p = lent
-listOf (posting w g b) p = lent
-listOf (giving-up w ids) p = lent
-listOf (advancing w) p = listAfter p (record { 0 = w }) lent
-
--- the record after a run
-unfoldable pub after : List Call → Pool → Pool
-after [] p = p
-after (c ∷ cs) p = after cs (call c p .pool)
 
 unfoldable pub answers : List Call → Pool → List Said
 answers [] p = []
@@ -103,7 +76,7 @@ fresh = blank 2 2 3
 -- n advances of worker w
 unfoldable pub advances : ℕ → ℕ → List Call
 advances w zero = []
-advances w (suc n) = advancing w ∷ advances w n
+advances w (suc n) = advancing w lent ∷ advances w n
 
 -- what is seen where the worker has come to its end: its registers are 0
 abbrev ended : List Said → List ℕ → ℕ → Slot → Shown

@@ -1,3 +1,4 @@
 -- What is shown of the pool's rules.
+pub mod Calls
 pub mod Determined
 pub mod Cases
