@@ -1,15 +1,15 @@
 -- The laws of `anyBelow` and of `among`. Assumes nothing.
 use Prim.Native.Nat.{ℕ, zero, suc, _+_, _<_}
-use mathlib.Core.Path.{_≡_, refl, ap₂, subst}
-use mathlib.Core.Bool.{Bool, true, false, _||_, or-true, false≢true}
-use mathlib.Core.List.{List}
+use mathlib.Core.Path.{_≡_, refl, sym, ap, ap₂, _∙_, subst}
+use mathlib.Core.Bool.{Bool, true, false, _||_, or-true, or-false, or-assoc, false≢true}
+use mathlib.Core.List.{List, _∷_, _++_}
 use native.Mathlib.Numerals.{add-one}
 use native.Mathlib.Omega.{arith}
 use lib.Dec.{eqb}
-use lib.ListN.{length, getD}
+use lib.ListN.{length, getD, List·getD-append}
 use borrow.Author.Tests.{eqb-true}
 use Rattle.basics.specs.Below.{anyBelow}
-use Rattle.basics.specs.Among.{among}
+use Rattle.basics.specs.Among.{amongFirst, among}
 use Rattle.basics.proofs.Truth.{or-cases, by-order}
 
 -- before the first turn of a loop, after one more, and after the last
@@ -52,6 +52,21 @@ pub any-cong : (n : ℕ) (f g : ℕ → Bool) → ((i : ℕ) → i < n → f i �
 unfolding anyBelow
 any-cong zero f g e = refl
 any-cong (suc n) f g e = ap₂ _||_ (any-cong n f g (λ i l. e i (omega arith))) (e n (omega arith))
+
+-- the first, and those after it
+pub any-front : (n : ℕ) (f : ℕ → Bool) → anyBelow (suc n) f ≡ (f 0 || anyBelow n (λ k. f (suc k)))
+unfolding anyBelow
+any-front zero f = sym (or-false (f 0))
+any-front (suc n) f = ap (λ (t : Bool). t || f (suc n)) (any-front n f) ∙ or-assoc (f 0) (anyBelow n (λ k. f (suc k))) (f (suc n))
+
+pub among-cons : (y : ℕ) (l : List ℕ) (x : ℕ) → among (y ∷ l) x ≡ (eqb y x || among l x)
+among-cons y l x = any-front (length l) (λ j. eqb (getD (y ∷ l) j 0) x)
+
+-- the front of two lists
+pub among-front : (l m : List ℕ) (x : ℕ) → amongFirst (l ++ m) (length l) x ≡ among l x
+among-front l m x =
+    any-cong (length l) (λ j. eqb (getD (l ++ m) j 0) x) (λ j. eqb (getD l j 0) x) (λ j h.
+    ap (λ (n : ℕ). eqb n x) (List·getD-append l m 0 j h))
 
 -- for the needs of a loop that looks for one: `search (needs, finds)`
 pub ruleset finds = (any-none, any-again, any-done)

@@ -1,6 +1,6 @@
 -- The members as an ascending list: the next one, and those above it. Assumes nothing.
 use mathlib.Core.Path.{_≡_, refl, sym, ap, ap₂, _∙_, subst}
-use mathlib.Core.Bool.{Bool, true, false}
+use mathlib.Core.Bool.{Bool, true, false, _||_}
 use mathlib.Core.List.{List, [], _∷_}
 use Prim.Native.Nat.{ℕ, zero, suc, _+_, _-_, _≤_, _<_, suc-le-suc}
 use native.Mathlib.Nat.{zero-lt-suc, zero-add, suc-add, add-zero}
@@ -8,8 +8,11 @@ use native.Mathlib.Numerals.{one-add}
 use native.Mathlib.Omega.{arith}
 use lib.ListN.{length}
 use Rattle.basics.specs.Pick.{when}
-use Rattle.basics.specs.Below.{countBelow, one}
-use Rattle.basics.proofs.Truth.{is-false}
+use borrow.Author.Tests.{eq-eqb, ne-eqb}
+use Rattle.basics.specs.Below.{countBelow, anyBelow, one}
+use Rattle.basics.specs.Among.{among}
+use Rattle.basics.proofs.Any.{among-cons}
+use Rattle.basics.proofs.Truth.{is-false, by-order}
 use Rattle.basics.proofs.Count.{count-none, count-front, count-cong}
 use Rattle.idset.specs.declared.IdSet.{IdSet}
 use Rattle.idset.specs.Members.{memberOf, sizeOf, nextOf, idsOf, above, membersOf}
@@ -108,3 +111,33 @@ ids-length p (suc n) b =
 pub members-size : (s : IdSet) → length (membersOf s) ≡ sizeOf s
 unfolding membersOf above sizeOf
 members-size s = ids-length (memberOf s) 256 1 ∙ count-cong 256 (λ k. memberOf s (1 + k)) (λ k. memberOf s (suc k)) (λ k l. ap (memberOf s) (one-add k))
+
+-- ---- the listed ids are the members
+
+-- another id, listed or not
+passed : (b x : ℕ) (l : List ℕ) (t : Bool) → (b ≡ x → ⊥) → among (when t (b ∷ l) l) x ≡ among l x
+unfolding when
+passed b x l true n = among-cons b l x ∙ ap (λ (t : Bool). t || among l x) (ne-eqb b x n)
+passed b x l false n = refl
+
+below-ids : (p : ℕ → Bool) (n b x : ℕ) → x < b → among (idsOf p n b) x ≡ false
+unfolding idsOf anyBelow
+below-ids p zero b x l = refl
+below-ids p (suc n) b x l = passed b x (idsOf p n (suc b)) (p b) (λ e. omega arith) ∙ below-ids p n (suc b) x (omega arith)
+
+met : (b x : ℕ) (l : List ℕ) (t : Bool) → b ≡ x → among l x ≡ false → among (when t (b ∷ l) l) x ≡ t
+unfolding when
+met b x l true e h = among-cons b l x ∙ ap (λ (t : Bool). t || among l x) (eq-eqb b x e)
+met b x l false e h = h
+
+among-ids : (p : ℕ → Bool) (n b x : ℕ) → b ≤ x → x < b + n → among (idsOf p n b) x ≡ p x
+unfolding idsOf
+among-ids p zero b x lo up = absurd (omega arith)
+among-ids p (suc n) b x lo up =
+    by-order x b
+    (λ l. let q : b ≡ x = omega arith in met b x (idsOf p n (suc b)) (p b) q (below-ids p n (suc b) x (omega arith)) ∙ ap p q)
+    (λ l. passed b x (idsOf p n (suc b)) (p b) (λ e. omega arith) ∙ among-ids p n (suc b) x l (omega arith))
+
+pub among-members : (s : IdSet) (x : ℕ) → 1 ≤ x → x ≤ 256 → among (membersOf s) x ≡ memberOf s x
+unfolding membersOf above
+among-members s x lo hi = among-ids (memberOf s) 256 1 x lo (omega arith)

@@ -1,0 +1,3 @@
+-- What a history says, and what is shown of every run.
+pub mod States
+pub mod Runs
