@@ -47,6 +47,10 @@ pub record Told-by (p : Pool) (s : States) (c : Call) (list : List ℕ) (t : Tol
   pub long : length (t .pool .states) ≡ 256
   pub same : (id : ℕ) → 1 ≤ id → id ≤ p .b → stateOf (t .pool) id ≡ heard c (t .answer) list s id
 
+-- a buffer's entry of a table
+pub at-buffer : (f : ℕ → ℕ) (id : ℕ) → 1 ≤ id → id ≤ 256 → getD (table 256 (λ k. f (suc k))) (id - 1) 0 ≡ f id
+at-buffer f id lo hi = table-at 256 (λ k. f (suc k)) (id - 1) 0 (omega arith) ∙ ap f (omega arith)
+
 module _ (p : Pool) (s : States) (sound : soundOf p ≡ true) (a : Agrees p s) where
   most : p .b ≤ 256
   most = sizes-of p sound .b-most
@@ -90,12 +94,6 @@ module _ (p : Pool) (s : States) (sound : soundOf p ≡ true) (a : Agrees p s) w
       after-both (Told-by p s (asking w b) list) (askCheck p _ _) p _ (λ e. quiet _ list _ refl refl refl refl (λ id. refl))
       (λ n place e. quiet _ list _ refl refl refl refl (λ id. refl))
 
-  -- a buffer's entry of a table
-  at-buffer : (f : ℕ → ℕ) (id : ℕ) → 1 ≤ id → id ≤ p .b → getD (table 256 (λ k. f (suc k))) (id - 1) 0 ≡ f id
-  at-buffer f id lo hi =
-      let m = most in
-      table-at 256 (λ k. f (suc k)) (id - 1) 0 (omega arith) ∙ ap f (omega arith)
-
   give-up-told : (w : ℕ) (ids list : List ℕ) → Told-by p s (giving-up w ids) list (giveUpOf p (record { 0 = w }) ids)
   unfolding giveUpOf heard afterCheck isAccepted when
   give-up-told w ids list =
@@ -107,7 +105,8 @@ module _ (p : Pool) (s : States) (sound : soundOf p ≡ true) (a : Agrees p s) w
         b = refl;
         long = table-length 256 _;
         same = λ id lo hi.
-            at-buffer (λ n. when (among ids n) 2 (stateOf p n)) id lo hi ∙ ap (λ (x : ℕ). when (among ids id) 2 x) (a .same id lo hi);
+            let m = most in
+            at-buffer (λ n. when (among ids n) 2 (stateOf p n)) id lo (omega arith) ∙ ap (λ (x : ℕ). when (among ids id) 2 x) (a .same id lo hi);
       })
       (λ n place e. quiet _ list _ refl refl refl refl (λ id. refl))
 
@@ -168,7 +167,7 @@ module _ (p : Pool) (s : States) (sound : soundOf p ≡ true) (a : Agrees p s) w
           long = table-length 256 _;
           same = λ id lo hi.
               let m = most in
-              at-buffer (λ n. when (memberOf (setAt p k) n) 0 (stateOf p n)) id lo hi
+              at-buffer (λ n. when (memberOf (setAt p k) n) 0 (stateOf p n)) id lo (omega arith)
               ∙ ap₂ (λ (t : Bool) (x : ℕ). when t 0 x) (sym (handed-ids k id e lo (omega arith))) (a .same id lo hi);
         }
 
