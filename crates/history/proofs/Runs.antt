@@ -15,6 +15,7 @@ use Rattle.history.specs.Runs.{EveryRun}
 use Rattle.history.proofs.Kept.{call-sound}
 use Rattle.history.proofs.Heard.{Agrees, call-told}
 use Rattle.history.proofs.Places.{placed-runs}
+use Rattle.history.proofs.Counted.{counted-runs}
 
 pub record Run (p : Pool) (s : States) (q : Pool) : Type 0 where
   pub sound : soundOf q ≡ true
@@ -47,4 +48,5 @@ every-run w g b h calls =
       buffers = r .b;
       states = λ id lo hi. r .agrees .same id lo (within id hi);
       places = λ id lo hi. placed-runs w g b h calls .places id lo (within id hi);
+      counts = counted-runs w g b h calls (r .sound);
     }
