@@ -151,7 +151,7 @@ module _ (p : Pool) (s : States) (sound : soundOf p ≡ true) (a : Agrees p s) w
     ends-quiet k said q e ew eg eb es = quiet _ list _ ew eg eb es (λ id. rw e)
 
     -- the ids handed back are the set's members
-    handed-ids : (k id : ℕ) → list ≡ handed (setAt p k) out → 1 ≤ id → id ≤ 256 → amongFirst list (sizeOf (setAt p k)) id ≡ memberOf (setAt p k) id
+    pub handed-ids : (k id : ℕ) → list ≡ handed (setAt p k) out → 1 ≤ id → id ≤ 256 → amongFirst list (sizeOf (setAt p k)) id ≡ memberOf (setAt p k) id
     unfolding handed
     handed-ids k id e lo hi =
         let set = setAt p k in
@@ -197,7 +197,7 @@ module _ (p : Pool) (s : States) (sound : soundOf p ≡ true) (a : Agrees p s) w
         })
 
   -- the list where the check finds nothing and the label is 32
-  list-written : (w : WorkerNo) (out : List ℕ) → advanceCheck p w (length out) ≡ fine → workerOf p w .label ≡ 32
+  pub list-written : (w : WorkerNo) (out : List ℕ) → advanceCheck p w (length out) ≡ fine → workerOf p w .label ≡ 32
       → listAfter p w out ≡ handed (setAt p (w .0 - 1)) out
   unfolding listAfter listAfterCheck when
   list-written w out e q = rw (e, q)

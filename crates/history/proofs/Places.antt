@@ -135,10 +135,10 @@ module _ (p : Pool) (sound : soundOf p ≡ true) (a : Placed p) where
   -- ---- the advance
 
   module _ (k : ℕ) (st : Stands p k) where
-    abbrev x : Worker
+    abbrev pub x : Worker
     x = workerAt p k
 
-    abbrev s : IdSet
+    abbrev pub s : IdSet
     s = setAt p k
 
     below : k < 8
@@ -190,17 +190,17 @@ module _ (p : Pool) (sound : soundOf p ≡ true) (a : Placed p) where
     slot-here : (n : ℕ) → x .label ≡ n → (eqb n 12 || eqb n 32) ≡ false → iOf p k < 32
     slot-here n e short = ready p k n st e short .i-below
 
-    abbrev slotId : ℕ
+    abbrev pub slotId : ℕ
     slotId = getD (p .«slot_id») (iOf p k) 0
 
-    abbrev h : ℕ
+    abbrev pub h : ℕ
     h = x .h .id
 
-    same-id : unchanged k p ≡ true → slotId ≡ h
+    pub same-id : unchanged k p ≡ true → slotId ≡ h
     same-id e = eqb-true slotId h (and-left (eqb slotId h) _ e)
 
     -- 18: v leaves the set for the slot, and what the slot held joins
-    exchange-change : x .label ≡ 18 → slotId ≡ h → (id : ℕ) → 1 ≤ id → id ≤ p .b → Dec (id ≡ x .v) → Dec (id ≡ h)
+    pub exchange-change : x .label ≡ 18 → slotId ≡ h → (id : ℕ) → 1 ≤ id → id ≤ p .b → Dec (id ≡ x .v) → Dec (id ≡ h)
         → one (eqb (x .v) id) + one (memberOf (withOf (withoutOf s (x .v)) h) id) ≡ one (eqb slotId id) + one (memberOf s id)
     exchange-change e q id lo hi d c =
         let m = most in
@@ -220,7 +220,7 @@ module _ (p : Pool) (sound : soundOf p ≡ true) (a : Placed p) where
         go (no v) (no r) = rw (ne-eqb id (x .v) v, ne-eqb (x .v) id (λ z. v (sym z)), ne-eqb id h r, ne-eqb h id (λ z. r (sym z)))
 
     -- 28: what the slot held joins
-    collect-change : x .label ≡ 28 → slotId ≡ h → (id : ℕ) → 1 ≤ id → id ≤ p .b → Dec (id ≡ h)
+    pub collect-change : x .label ≡ 28 → slotId ≡ h → (id : ℕ) → 1 ≤ id → id ≤ p .b → Dec (id ≡ h)
         → one (eqb 0 id) + one (memberOf (withOf s h) id) ≡ one (eqb slotId id) + one (memberOf s id)
     collect-change e q id lo hi d =
         let m = most in

@@ -1,4 +1,6 @@
 -- What a history says, and what is shown of every run.
 pub mod States
 pub mod Counts
+pub mod Holds
 pub mod Runs
+pub mod Safe
