@@ -3,15 +3,12 @@
 -- soundness and the states of buffers
 pub mod Kept
 pub mod Heard
-
 -- places, and what they count
 pub mod Placed
 pub mod Places
 pub mod Sums
 pub mod Leaving
 pub mod Counted
-pub mod Runs
-
 -- holds: who is at which guard, and how far the give-ups are that carry a held buffer
 pub mod Changed
 pub mod Moves
@@ -21,3 +18,6 @@ pub mod Spread
 pub mod Watching
 pub mod Watched
 pub mod Safe
+-- all of it
+pub mod Runs
+pub mod Examples

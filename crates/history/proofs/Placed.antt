@@ -52,7 +52,7 @@ abbrev pub tries : ℕ → Bool
 tries l = eqb l 18 || eqb l 22 || eqb l 25
 
 -- a worker and its set
-pub record Holds (x : Worker) (s : IdSet) : Type 0 where
+pub record Carries (x : Worker) (s : IdSet) : Type 0 where
   pub outside : gives (x .label) ≡ false → (id : ℕ) → memberOf s id ≡ false
   pub trying : tries (x .label) ≡ true → memberOf s (x .v) ≡ true
 
@@ -74,7 +74,7 @@ pub record Arrays (b : ℕ) (slots states : List ℕ) (workers : List Worker) (s
   pub states-long : length states ≡ 256
   pub workers-long : length workers ≡ 8
   pub sets-long : length sets ≡ 8
-  pub holds : (k : ℕ) → k < 8 → Holds (getD workers k noWorker) (getD sets k none)
+  pub holds : (k : ℕ) → k < 8 → Carries (getD workers k noWorker) (getD sets k none)
   pub places : (id : ℕ) → 1 ≤ id → id ≤ b → inSlots slots id + inSets sets id ≡ wanted states id
 
 abbrev pub Placed : Pool → Type 0
@@ -114,7 +114,7 @@ module _ {b : ℕ} {slots states : List ℕ} {workers : List Worker} {sets : Lis
         omega (arith, member-counted id m, a .places id lo hi, one-le (eqb (getD states (id - 1) 0) 2)))
 
     -- the worker and its set replaced, and with them slots and states: each id's places and what is wanted change alike
-    pub replaced : (slots′ states′ : List ℕ) (x : Worker) (s : IdSet) → length slots′ ≡ 32 → length states′ ≡ 256 → Holds x s
+    pub replaced : (slots′ states′ : List ℕ) (x : Worker) (s : IdSet) → length slots′ ≡ 32 → length states′ ≡ 256 → Carries x s
         → ((id : ℕ) → 1 ≤ id → id ≤ b → inSlots slots′ id + one (memberOf s id) + wanted states id ≡ inSlots slots id + one (memberOf mine id) + wanted states′ id)
         → Arrays b slots′ states′ (set workers k x) (set sets k s)
     replaced slots′ states′ x s slots-long states-long h change =
@@ -128,20 +128,20 @@ module _ {b : ℕ} {slots states : List ℕ} {workers : List Worker} {sets : Lis
               omega (arith, change id lo hi, a .places id lo hi, count-set 8 (λ s. memberOf s id) sets k s none below (a .sets-long));
         }
       where
-        each : (j : ℕ) → j < 8 → Dec (j ≡ k) → Holds (getD (set workers k x) j noWorker) (getD (set sets k s) j none)
+        each : (j : ℕ) → j < 8 → Dec (j ≡ k) → Carries (getD (set workers k x) j noWorker) (getD (set sets k s) j none)
         each j l (yes e) =
             let wl = a .workers-long in
             let sl = a .sets-long in
             rw (e, getD-set-same workers k x noWorker (omega arith), getD-set-same sets k s none (omega arith)) h
         each j l (no n) = rw (getD-set-other workers k j x noWorker n, getD-set-other sets k j s none n) (a .holds j l)
 
-    pub worker-replaced : (x : Worker) → Holds x mine → Arrays b slots states (set workers k x) sets
+    pub worker-replaced : (x : Worker) → Carries x mine → Arrays b slots states (set workers k x) sets
     worker-replaced x h =
         subst (λ (l : List IdSet). Arrays b slots states (set workers k x) l) (set-getD sets k none)
         (replaced slots states x mine (a .slots-long) (a .states-long) h (λ id lo hi. refl))
 
     -- a slot's id replaced too, and no state
-    pub slot-replaced : (i v : ℕ) (x : Worker) (s : IdSet) → i < 32 → Holds x s
+    pub slot-replaced : (i v : ℕ) (x : Worker) (s : IdSet) → i < 32 → Carries x s
         → ((id : ℕ) → 1 ≤ id → id ≤ b → one (eqb v id) + one (memberOf s id) ≡ one (eqb (getD slots i 0) id) + one (memberOf mine id))
         → Arrays b (set slots i v) states (set workers k x) (set sets k s)
     slot-replaced i v x s l h change =

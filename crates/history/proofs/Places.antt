@@ -41,18 +41,18 @@ use Rattle.rules.proofs.Fresh.{made-sound, blank-fresh}
 use Rattle.rules.proofs.ListChecked.{listed}
 use Rattle.history.proofs.Kept.{after-both, call-sound}
 use Rattle.history.proofs.Heard.{at-buffer}
-use Rattle.history.proofs.Placed.{gives, tries, Holds, wanted, Placed, restated, member-wanted, slot-alone, replaced, worker-replaced, slot-replaced}
+use Rattle.history.proofs.Placed.{gives, tries, Carries, wanted, Placed, restated, member-wanted, slot-alone, replaced, worker-replaced, slot-replaced}
 
 -- ---- a worker and its set, by the label
 
 module _ (x : Worker) (s : IdSet) where
-  empty-set : tries (x .label) ≡ false → ((id : ℕ) → memberOf s id ≡ false) → Holds x s
+  empty-set : tries (x .label) ≡ false → ((id : ℕ) → memberOf s id ≡ false) → Carries x s
   empty-set t e = record { outside = λ n. e; trying = λ y. absurd (false≢true (sym t ∙ y)) }
 
-  any-set : gives (x .label) ≡ true → tries (x .label) ≡ false → Holds x s
+  any-set : gives (x .label) ≡ true → tries (x .label) ≡ false → Carries x s
   any-set g t = record { outside = λ n. absurd (false≢true (sym n ∙ g)); trying = λ y. absurd (false≢true (sym t ∙ y)) }
 
-  set-with-v : gives (x .label) ≡ true → memberOf s (x .v) ≡ true → Holds x s
+  set-with-v : gives (x .label) ≡ true → memberOf s (x .v) ≡ true → Carries x s
   set-with-v g m = record { outside = λ n. absurd (false≢true (sym n ∙ g)); trying = λ y. m }
 
 module _ (p : Pool) (sound : soundOf p ≡ true) (a : Placed p) where
@@ -144,7 +144,7 @@ module _ (p : Pool) (sound : soundOf p ≡ true) (a : Placed p) where
     below : k < 8
     below = worker-below st
 
-    held : Holds x s
+    held : Carries x s
     held = a .holds k below
 
     outside-at : (n : ℕ) → x .label ≡ n → gives n ≡ false → (id : ℕ) → memberOf s id ≡ false
@@ -153,7 +153,7 @@ module _ (p : Pool) (sound : soundOf p ≡ true) (a : Placed p) where
     trying-at : (n : ℕ) → x .label ≡ n → tries n ≡ true → memberOf s (x .v) ≡ true
     trying-at n e t = held .trying (ap tries e ∙ t)
 
-    goes-on : (y : Worker) → Holds y s → Placed (withWorker k y p)
+    goes-on : (y : Worker) → Carries y s → Placed (withWorker k y p)
     goes-on y h = worker-replaced a k below y h
 
     -- outside of a give-up
@@ -245,16 +245,16 @@ module _ (p : Pool) (sound : soundOf p ≡ true) (a : Placed p) where
           at8 = λ e. quiet-end 8 e refl;
           at9 = λ e. quiet 9 e refl _ refl;
           at10 = λ e. quiet-end 10 e refl;
-          at12 = λ e. goes-on _ (when-both (λ n. Holds (to n x) s) _ 13 32 (λ t. any-set _ _ refl refl) (λ t. any-set _ _ refl refl));
+          at12 = λ e. goes-on _ (when-both (λ n. Carries (to n x) s) _ 13 32 (λ t. any-set _ _ refl refl) (λ t. any-set _ _ refl refl));
           at13 = λ e. goes-on _ (any-set _ _ refl refl);
-          at15 = λ e. goes-on _ (when-both (λ n. Holds (to n (withV (postedHere p k) x)) s) _ 18 28
+          at15 = λ e. goes-on _ (when-both (λ n. Carries (to n (withV (postedHere p k) x)) s) _ 18 28
               (λ t. set-with-v _ _ refl (and-right (not (eqb (postedHere p k) 0)) _ t)) (λ t. any-set _ _ refl refl));
           at18 = λ e. unless-both Fine _ _ _ (λ t. goes-on _ (set-with-v _ _ refl (trying-at 18 e refl)))
               (λ t.
               slot-replaced a k below (iOf p k) (x .v) _ _ (slot-here 18 e refl) (any-set _ _ refl refl) (λ id lo hi.
               exchange-change e (same-id t) id lo hi (ℕ-discrete id (x .v)) (ℕ-discrete id h)));
-          at22 = λ e. goes-on _ (when-both (λ y. Holds y s) _ _ _ (λ t. any-set _ _ refl refl) (λ t. set-with-v _ _ refl (trying-at 22 e refl)));
-          at25 = λ e. goes-on _ (when-both (λ n. Holds (to n x) s) _ 31 18 (λ t. any-set _ _ refl refl) (λ t. set-with-v _ _ refl (trying-at 25 e refl)));
+          at22 = λ e. goes-on _ (when-both (λ y. Carries y s) _ _ _ (λ t. any-set _ _ refl refl) (λ t. set-with-v _ _ refl (trying-at 22 e refl)));
+          at25 = λ e. goes-on _ (when-both (λ n. Carries (to n x) s) _ 31 18 (λ t. any-set _ _ refl refl) (λ t. set-with-v _ _ refl (trying-at 25 e refl)));
           at28 = λ e. unless-both Fine _ _ _ (λ t. goes-on _ (any-set _ _ refl refl))
               (λ t.
               slot-replaced a k below (iOf p k) 0 _ _ (slot-here 28 e refl) (any-set _ _ refl refl) (λ id lo hi.

@@ -13,6 +13,7 @@ use Rattle.rules.proofs.Fresh.{made-sound, blank-fresh}
 use Rattle.history.specs.States.{States, allFree, heard, statesAfter}
 use Rattle.history.specs.Runs.{EveryRun}
 use Rattle.history.proofs.Kept.{call-sound}
+use Rattle.history.proofs.Safe.{safe}
 use Rattle.history.proofs.Heard.{Agrees, call-told}
 use Rattle.history.proofs.Places.{placed-runs}
 use Rattle.history.proofs.Counted.{counted-runs}
@@ -49,4 +50,5 @@ every-run w g b h calls =
       states = λ id lo hi. r .agrees .same id lo (within id hi);
       places = λ id lo hi. placed-runs w g b h calls .places id lo (within id hi);
       counts = counted-runs w g b h calls (r .sound);
+      safe = safe w g b h calls;
     }

@@ -12,6 +12,7 @@ use Rattle.idset.specs.Members.{memberOf, sizeOf}
 use Rattle.worker.specs.declared.Worker.{Worker}
 use Rattle.pool.specs.declared.WorkerNo.{WorkerNo}
 use Rattle.pool.specs.declared.Pool.{Pool}
+use Rattle.pool.specs.Sound.{inRange}
 use Rattle.pool.specs.Answers.{Said, Told, back, label, afterCheck}
 use Rattle.pool.specs.Record.{blank, workerAt, setAt}
 use Rattle.pool.specs.Steps.{puts, ends, line2, line18, line28, line32, lineOf, standCheck, advanceCheck, advanceOf, handed, listAfter}
@@ -140,7 +141,7 @@ fresh-watching w g b =
       };
     }
 
-pub safe : Safe
+pub safe : (w g b : ℕ) → inRange w g b ≡ true → (calls : List Call) → Safe w g b calls
 unfolding call listOf
 safe w g b range calls worker out n answer i id lo handed held =
     let start : Known (blank w g b) freshWatch =

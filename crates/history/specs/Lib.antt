@@ -2,5 +2,6 @@
 pub mod States
 pub mod Counts
 pub mod Holds
-pub mod Runs
 pub mod Safe
+pub mod Runs
+pub mod Examples

@@ -46,10 +46,10 @@ show-case10 = refl
 -- ---- cases that go on where another ended
 
 -- case 1 leaves guard 0 with worker 1
-abbrev hired : Pool
+abbrev pub hired : Pool
 hired = withTaken 0 true (withEmployer 0 1 (blank 2 2 3))
 
-left1 : left case1 ≡ hired
+pub left1 : left case1 ≡ hired
 unfolding when unless allBelow anyBelow countBelow table digit isId memberOf pack wordOf setOf noIds withOf withoutOf sizeOf withinOf idsOf above membersOf at22 first afterCheck soundOf beyondSound kindsSound idsSound registersSound workerCheck beginCheck guardCheck idCheck postCheck entryCheck listCheck giveUpCheck takeCheck hireOf postOf giveUpOf takeOf puts ends line2 line18 line28 lineOf handCheck lineCheck standCheck advanceCheck advanceOf handed listAfterCheck listAfter call listOf after answers listAtEnd shownFrom advances left case1
 left1 = refl
 
@@ -62,14 +62,14 @@ unfolding when unless allBelow anyBelow countBelow table digit isId memberOf pac
 run5 = refl
 
 -- case 5 leaves guard 0 posted on buffer 1, which is leaving and in its slot
-abbrev kept : Pool
+abbrev pub kept : Pool
 kept = withSlot 0 (record { id = 1; version = 1 }) (withPosted 0 1 (withState 1 2 hired))
 
 end5 : after (case5 .calls) hired ≡ kept
 unfolding when unless allBelow anyBelow countBelow table digit isId memberOf pack wordOf setOf noIds withOf withoutOf sizeOf withinOf idsOf above membersOf at22 first afterCheck soundOf beyondSound kindsSound idsSound registersSound workerCheck beginCheck guardCheck idCheck postCheck entryCheck listCheck giveUpCheck takeCheck hireOf postOf giveUpOf takeOf puts ends line2 line18 line28 lineOf handCheck lineCheck standCheck advanceCheck advanceOf handed listAfterCheck listAfter call listOf after answers listAtEnd shownFrom advances case5
 end5 = refl
 
-left5 : left case5 ≡ kept
+pub left5 : left case5 ≡ kept
 unfolding left case5
 left5 = ap (after (case5 .calls)) left1 ∙ end5
 
