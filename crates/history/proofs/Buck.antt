@@ -85,7 +85,7 @@ module _ (slot : ℕ → Slot) (hold : ℕ → ℕ) (w : ℕ → Mover) (inv : B
       (omega arith) (λ q _. inv .runner q) (λ q _. omega arith) (λ q _. omega arith) (λ q r _ _ n. inv .race q r n)
       f (inv .ahead) (inv .over)
 
-  -- Carries may end, and a hold may begin on a buffer that is not leaving.
+  -- Holds may end, and a hold may begin on a buffer that is not leaving.
   pub rehold : (st hold' : ℕ → ℕ) → Spread slot st w → ((g : ℕ) → (hold' g ≡ hold g) ⊎ (0 < hold' g → st (hold' g) ≢ 2)) → Buck slot hold' w
   rehold st hold' sp law = record {
     runner = λ p. old p (law (w p .i));

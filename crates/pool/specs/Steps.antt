@@ -91,9 +91,12 @@ line10 k p = ends k posted p
 
 -- ---- give up
 
--- 12: MAXG is read at every visit
+-- 12: the last guard to visit is MAXG as it is at this visit
+abbrev pub lastGuard : ℕ → Pool → ℕ
+lastGuard k p = p .maxg
+
 abbrev pub line12 : ℕ → Pool → Told
-line12 k p = puts k (at12 (workerAt p k) (p .maxg)) p
+line12 k p = puts k (at12 (workerAt p k) (lastGuard k p)) p
 
 -- 13
 abbrev pub line13 : ℕ → Pool → Told

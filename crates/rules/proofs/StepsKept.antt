@@ -22,7 +22,7 @@ use Rattle.pool.specs.declared.WorkerNo.{WorkerNo}
 use Rattle.pool.specs.Answers.{Said, Told, none-found, guard, fired, posted, back}
 use Rattle.pool.specs.Record.{takenAt, workerAt, setAt, withMaxg, withSet}
 use Rattle.pool.specs.Sound.{isLabel, soundOf}
-use Rattle.pool.specs.Steps.{iOf, postedHere, slotHere, unchanged, refilled, collects, puts, goes, ends, line2, line4, line5, line6, line7, line9, line12, line13, line15, line18, line22, line25, line28, line31, line32, lineOf, standCheck, advanceCheck, advanceOf}
+use Rattle.pool.specs.Steps.{iOf, lastGuard, postedHere, slotHere, unchanged, refilled, collects, puts, goes, ends, line2, line4, line5, line6, line7, line9, line12, line13, line15, line18, line22, line25, line28, line31, line32, lineOf, standCheck, advanceCheck, advanceOf}
 use Rattle.pool.specs.Ready.{Stands}
 use Rattle.pool.proofs.Parts.{Parts, parts, whole, sizes-of, placeIn, threeAt, triesIn, worker-in}
 use Rattle.rules.proofs.Kept.{guard-in, maxg-kept, taken-kept, employer-kept, posted-kept, slot-kept, some-states-kept, worker-kept, set-kept}
@@ -152,8 +152,9 @@ module _ {p : Pool} (s : Parts p) (k : ℕ) (l : k < p .w) where
   line12-kept e =
       let r = ranged s k l in
       let maxg = sizes-of p (whole s) .maxg-below in
-      either x (leb (iOf p k) (p .maxg)) 13 32
-      (λ in-use. goes-kept s k l 13 refl refl (omega (arith, leb-true (iOf p k) (p .maxg) in-use)))
+      let max = ltb-true (x .max) (p .g) (worker-in s k l .max) in
+      either x (leb (iOf p k) (lastGuard k p)) 13 32
+      (λ in-use. goes-kept s k l 13 refl refl (omega (arith, leb-true (iOf p k) (lastGuard k p) in-use)))
       (λ past. puts-kept s k l (to 32 x) refl (rw e at (worker-in s k l .place)) (or-true (leb (x .attempts) 2)) r)
 
   line13-kept : x .label ≡ 13 → Sound (line13 k p)
