@@ -10,6 +10,7 @@ pub mod Sums
 pub mod Leaving
 pub mod Counted
 -- holds: who is at which guard, and how far the give-ups are that carry a held buffer
+pub mod Tests
 pub mod Changed
 pub mod Moves
 pub mod Guards

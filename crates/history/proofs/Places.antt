@@ -30,7 +30,7 @@ use Rattle.pool.specs.Record.{blank, stateOf, workerAt, setAt, withStates, with
 use Rattle.pool.specs.Sound.{inRange, soundOf}
 use Rattle.pool.specs.Checks.{beginCheck, fireCheck, postCheck, giveUpCheck, takeCheck, askCheck}
 use Rattle.pool.specs.Begins.{hireOf, fireOf, postOf, leaving, giveUpOf, takeOf, askOf}
-use Rattle.pool.specs.Steps.{iOf, postedHere, unchanged, puts, ends, line2, line18, line28, freed, lineOf, standCheck, advanceCheck, advanceOf}
+use Rattle.pool.specs.Steps.{iOf, postedHere, unchanged, unposted, puts, ends, line2, line18, line28, freed, lineOf, standCheck, advanceCheck, advanceOf}
 use Rattle.pool.specs.Ready.{Stands}
 use Rattle.pool.proofs.Parts.{sizes-of}
 use Rattle.pool.proofs.Checked.{first-both, Begun, begun, fires, posts, takes, GivesUp, gives-up}
@@ -258,7 +258,7 @@ module _ (p : Pool) (sound : soundOf p ≡ true) (a : Placed p) where
           at28 = λ e. unless-both Fine _ _ _ (λ t. goes-on _ (any-set _ _ refl refl))
               (λ t.
               slot-replaced a k below (iOf p k) 0 _ _ (slot-here 28 e refl) (any-set _ _ refl refl) (λ id lo hi.
-              collect-change e (same-id (and-right (not (eqb h 0) && not (eqb h (x .v))) (unchanged k p) t)) id lo hi (ℕ-discrete id h)));
+              collect-change e (same-id (and-right (unposted k p) (unchanged k p) t)) id lo hi (ℕ-discrete id h)));
           at31 = λ e. goes-on _ (any-set _ _ refl refl);
           at32 = λ none. last-placed;
         })

@@ -8,7 +8,7 @@ use native.Mathlib.Decide.{ℕ-discrete}
 use native.Mathlib.Omega.{arith}
 use lib.Dec.{eqb}
 use lib.ListN.{length, length-set}
-use borrow.Author.Tests.{eqb-true, eqb-false, eq-eqb, ne-eqb, ltb-true, ltb-false, leb-true, leb-false, not-true, not-false}
+use borrow.Author.Tests.{eqb-true, eqb-false, eq-eqb, ne-eqb, ltb-true, ltb-false, leb-true, not-true, not-false}
 use Rattle.basics.specs.Pick.{when}
 use Rattle.basics.specs.Below.{one}
 use Rattle.basics.specs.Among.{among}
@@ -26,7 +26,7 @@ use Rattle.pool.specs.Record.{employerAt, postedAt, stateOf, takenAt, workerAt,
 use Rattle.pool.specs.Sound.{soundOf}
 use Rattle.pool.specs.Checks.{beginCheck, fireCheck, postCheck, giveUpCheck, takeCheck, askCheck}
 use Rattle.pool.specs.Begins.{hireOf, fireOf, postOf, giveUpOf, takeOf, askOf}
-use Rattle.pool.specs.Steps.{iOf, postedHere, slotHere, unchanged, puts, ends, line2, line18, line28, lineOf, standCheck, advanceCheck, advanceOf}
+use Rattle.pool.specs.Steps.{iOf, postedHere, slotHere, unchanged, unposted, puts, ends, line2, line18, line28, lineOf, standCheck, advanceCheck, advanceOf}
 use Rattle.pool.specs.Ready.{Stands}
 use Rattle.pool.proofs.Checked.{first-both, Begun, begun, fires, posts, gives-up}
 use Rattle.pool.proofs.Standing.{stands, standing, in-use, worker-below, ready}
@@ -37,6 +37,7 @@ use Rattle.history.specs.Holds.{Watch, changed, isPosted, beginsPost, he
 use Rattle.history.proofs.Kept.{after-both}
 use Rattle.history.proofs.Placed.{Placed}
 use Rattle.history.proofs.Places.{exchange-change, collect-change, same-id}
+use Rattle.history.proofs.Tests.{some-id, within-maxg, past-maxg, same-version, third-failure, earlier-failure, collects-some, collects-unposted}
 use Rattle.history.proofs.Changed.{changed-case, changed-same, set-changed}
 use Rattle.history.proofs.Moves.{desk, hire, s2y, s2n, s2e, s4a, s4b, s5y, s5n, s6, fire, s7, s8, post, s9, s10, w12a, w12b, w13, w15a, w15b, w18n, w22a, w22b, w25a, w25b, w25c, w28n, w31, exchanges, collects}
 use Rattle.history.proofs.Spread.{moverAt, spread}
@@ -45,9 +46,6 @@ use Rattle.history.proofs.Watching.{deskOf, LongOf, Watching, Known, wo
 or-none : (a b : Bool) → (a || b) ≡ false → b ≡ false
 or-none true b h = absurd (false≢true (sym h))
 or-none false b h = h
-
-some-id : (n : ℕ) → not (eqb n 0) ≡ true → 0 < n
-some-id n t = let z = eqb-false n 0 (not-true (eqb n 0) t) in omega arith
 
 module _ {p : Pool} {h : Watch} (known : Known p h) where
   abbrev Fine : Call → Told → Type 0
@@ -221,9 +219,6 @@ module _ {p : Pool} {h : Watch} (known : Known p h) where
     changed-slot : unchanged k p ≡ false → x .h .id ≡ slotHere p k .id → x .h .version ≡ slotHere p k .version → ⊥
     changed-slot t q r = false≢true (sym t ∙ rw (q, r, eq-eqb (slotHere p k .id) (slotHere p k .id) refl, eq-eqb (slotHere p k .version) (slotHere p k .version) refl))
 
-    same-version : unchanged k p ≡ true → x .h .version ≡ slotHere p k .version
-    same-version t = sym (eqb-true _ _ (and-right (eqb (slotHere p k .id) (x .h .id)) _ t))
-
     lines-watched : Line (lineOf (x .label) k p)
     unfolding puts ends line2 line18 line28 at22 watchedPosts isPosted when completesPost
     lines-watched =
@@ -247,7 +242,7 @@ module _ {p : Pool} {h : Watch} (known : Known p h) where
               (λ _ _. i .recalls k (omega arith) (omega arith));
           at10 = λ e. post-ends e;
           at12 = λ e. when-both (λ n. Watching (withWorker k (to n x) p) pg pb ho) _ 13 32
-              (λ t. walks known k below _ (w12a e (leb-true _ _ t))) (λ t. walks known k below _ (w12b e (leb-false _ _ t)));
+              (λ t. walks known k below _ (w12a e (within-maxg k p t))) (λ t. walks known k below _ (w12b e (past-maxg k p t)));
           at13 = λ e. walks known k below _ (w13 e);
           at15 = λ e. when-both (λ n. Watching (withWorker k (to n (withV (postedHere p k) x)) p) pg pb ho) (not (eqb (postedHere p k) 0) && memberOf (setAt p k) (postedHere p k)) 18 28
               (λ t.
@@ -255,10 +250,10 @@ module _ {p : Pool} {h : Watch} (known : Known p h) where
               (λ t. walks known k below _ (w15b e (λ l. ap one (rw (ne-eqb (postedHere p k) 0 (λ z. omega arith)) at t))));
           at18 = λ e. unless-both Line _ _ _ (λ t. walks known k below _ (w18n e (changed-slot t)))
               (λ t.
-              stores known k below (x .v) _ (exchanges e) (guard-here 18 e refl) (sym (same-id p sound a k st t)) (same-version t) (λ b lo hi.
+              stores known k below (x .v) _ (exchanges e) (guard-here 18 e refl) (sym (same-id p sound a k st t)) (same-version k p t) (λ b lo hi.
               exchange-change p sound a k st e (same-id p sound a k st t) b lo hi (ℕ-discrete b (x .v)) (ℕ-discrete b (x .h .id))));
           at22 = λ e. when-both (λ y. Watching (withWorker k y p) pg pb ho) _ _ _
-              (λ t. let n = eqb-true (x .attempts + 1) 3 t in walks known k below _ (w22a e (omega arith))) (λ t. let n = eqb-false (x .attempts + 1) 3 t in walks known k below _ (w22b e (λ z. n (omega arith))));
+              (λ t. walks known k below _ (w22a e (third-failure k p t))) (λ t. walks known k below _ (w22b e (earlier-failure k p t)));
           at25 = λ e. when-both (λ n. Watching (withWorker k (to n x) p) pg pb ho) _ 31 18
               (λ t.
               or-cases (eqb (x .attempts) 2 && not (eqb (x .h .id) 0)) _ t
@@ -267,10 +262,9 @@ module _ {p : Pool} {h : Watch} (known : Known p h) where
               (λ t. walks known k below _ (w25c e (eqb-true _ _ (not-false _ (or-none (eqb (x .attempts) 2 && not (eqb (x .h .id) 0)) _ t)))));
           at28 = λ e. unless-both Line _ _ _ (λ t. walks known k below _ (w28n e))
               (λ t.
-              let u = and-right (not (eqb (x .h .id) 0) && not (eqb (x .h .id) (x .v))) (unchanged k p) t in
-              let both = and-left (not (eqb (x .h .id) 0) && not (eqb (x .h .id) (x .v))) (unchanged k p) t in
-              let d = eqb-false _ _ (not-true _ (and-right (not (eqb (x .h .id) 0)) _ both)) in
-              stores known k below 0 _ (collects e (some-id _ (and-left (not (eqb (x .h .id) 0)) _ both)) d) (guard-here 28 e refl) (sym (same-id p sound a k st u)) (same-version u) (λ b lo hi.
+              let u = and-right (unposted k p) (unchanged k p) t in
+              let c = and-left (unposted k p) (unchanged k p) t in
+              stores known k below 0 _ (collects e (collects-some k p c) (collects-unposted k p c)) (guard-here 28 e refl) (sym (same-id p sound a k st u)) (same-version k p u) (λ b lo hi.
               collect-change p sound a k st e (same-id p sound a k st u) b lo hi (ℕ-discrete b (x .h .id))));
           at31 = λ e. walks known k below _ (w31 e);
           at32 = λ none. resets known k below _ noWorker noIds (both-moved known k below noWorker noIds) refl refl (i .long) (omega arith) (omega arith) (λ g _ m. absurd (omega (arith, none-empty (ho g))));

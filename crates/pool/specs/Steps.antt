@@ -129,9 +129,13 @@ line22 k p = puts k (at22 (workerAt p k) (slotHere p k)) p
 abbrev pub line25 : ℕ → Pool → Told
 line25 k p = puts k (at25 (workerAt p k) (postedHere p k)) p
 
--- the slot's buffer may be collected: the guard is not posted on it, and nobody has stored since
+-- h is a buffer, and not the one that guard i was posted on
+abbrev pub unposted : ℕ → Pool → Bool
+unposted k p = not (eqb (workerAt p k .h .id) 0) && not (eqb (workerAt p k .h .id) (workerAt p k .v))
+
+-- the slot's buffer may be collected
 abbrev pub collects : ℕ → Pool → Bool
-collects k p = not (eqb (workerAt p k .h .id) 0) && not (eqb (workerAt p k .h .id) (workerAt p k .v)) && unchanged k p
+collects k p = unposted k p && unchanged k p
 
 -- 28
 abbrev pub collect : ℕ → Pool → Told

@@ -1,5 +1,6 @@
 -- An advance keeps a sound record sound. Assumes nothing.
 use mathlib.Core.Path.{_≡_, refl, sym, _∙_}
+use mathlib.Core.Logic.{_≢_}
 use mathlib.Core.Bool.{Bool, true, false, not, _&&_, _||_, or-true, false≢true}
 use mathlib.Core.List.{List}
 use Prim.Native.Nat.{ℕ, _+_, _-_, _≤_, _<_}
@@ -16,7 +17,7 @@ use Rattle.idset.specs.Members.{memberOf, noIds, withinOf, sizeOf}
 use Rattle.idset.proofs.Within.{within-true, with-within, without-within}
 use Rattle.worker.specs.declared.Worker.{Worker}
 use Rattle.worker.specs.Registers.{noWorker, to, withI, withV, withH, withMax}
-use Rattle.worker.specs.Steps.{at13, failed, at22, at31}
+use Rattle.worker.specs.Steps.{at13, failed, lastFailed, at22, at31}
 use Rattle.pool.specs.declared.Pool.{Pool}
 use Rattle.pool.specs.declared.WorkerNo.{WorkerNo}
 use Rattle.pool.specs.Answers.{Said, Told, none-found, guard, fired, posted, back}
@@ -198,9 +199,11 @@ module _ {p : Pool} (s : Parts p) (k : ℕ) (l : k < p .w) where
       let below = guard-at 22 e refl in
       let few = few-at 22 e refl in
       let stored = slot-most below in
-      when-both (λ y. Sound (puts k y p)) (eqb (x .attempts + 1) 3) _ _
+      when-both (λ y. Sound (puts k y p)) (lastFailed x) _ _
       (λ third. puts-free s k l (to 31 (failed x)) refl refl below (omega arith))
-      (λ before. puts-trying s k l (to 25 (withH (slotHere p k) (failed x))) refl (omega (arith, eqb-false (x .attempts + 1) 3 before)) below (omega arith))
+      (λ before.
+      let fewer : x .attempts + 1 ≢ 3 = λ q. false≢true (sym (rw q at before)) in
+      puts-trying s k l (to 25 (withH (slotHere p k) (failed x))) refl (omega (arith, fewer)) below (omega arith))
 
   line25-kept : x .label ≡ 25 → Sound (line25 k p)
   unfolding anyBelow

@@ -33,9 +33,13 @@ at15 x posted member = to (when (not (eqb posted 0) && member) 18 28) (withV pos
 abbrev pub failed : Worker → Worker
 failed x = withAttempts (x .attempts + 1) x
 
--- the third ends the attempts, with h kept; before it the slot is read anew
+-- the third ends the attempts
+abbrev pub lastFailed : Worker → Bool
+lastFailed x = eqb (failed x .attempts) 3
+
+-- with h kept; before it the slot is read anew
 unfoldable pub at22 : Worker → Slot → Worker
-at22 x slot = when (eqb (failed x .attempts) 3) (to 31 (failed x)) (to 25 (withH slot (failed x)))
+at22 x slot = when (lastFailed x) (to 31 (failed x)) (to 25 (withH slot (failed x)))
 
 -- no further attempt where the slot came to hold a buffer by the second failure, or where v is posted no more
 abbrev pub at25 : Worker → ℕ → Worker
