@@ -1,0 +1,195 @@
+//! The coverage table: what the cases made the model do, counted cell by cell.
+
+use crate::call::{Answer, Call};
+use crate::calls::Outcome;
+use crate::cases::Kind;
+use crate::cells::{self, MADE};
+use crate::edges;
+use crate::record::{Record, IDLE};
+use crate::sound::{self, Rule, NOT_12_OR_32, NO_LABELS, RULES};
+use std::collections::BTreeMap;
+use std::fmt::Write;
+
+pub struct Cover {
+    order: Vec<String>,
+    counts: BTreeMap<String, u64>,
+}
+
+impl Cover {
+    pub fn new() -> Cover {
+        let order = cells::all();
+        let counts = order.iter().map(|name| (name.clone(), 0)).collect();
+        Cover { order, counts }
+    }
+
+    fn hit(&mut self, name: String) {
+        *self.counts.entry(name).or_insert(0) += 1;
+    }
+
+    pub fn count(
+        &mut self,
+        kind: Kind,
+        before: &Record,
+        list: &[u32],
+        call: &Call,
+        outcome: &Outcome,
+    ) {
+        self.hit(format!("kind: {}", kind.name()));
+        if let Answer::Refused(..) = outcome.answer {
+            self.refused(call, outcome);
+        } else {
+            self.accepted(kind, before, list, call, outcome);
+        }
+        if let (Call::Give { .. }, true) = (call, list.len() > before.b as usize) {
+            self.hit("give: list longer than B".to_string());
+        }
+        if matches!(call, Call::Make { .. }) {
+            return;
+        }
+        // A rule counts as tested when it alone is broken.
+        if let [alone] = sound::broken(before)[..] {
+            if let Some((_, name)) = RULES.iter().find(|(rule, _)| *rule == alone) {
+                self.hit(format!("unsound: {name}"));
+            }
+            self.damaged_label(before, alone);
+        }
+        if let (Kind::Unreached, false) = (kind, outcome.answer == Answer::Refused(2, 0)) {
+            for name in edges::of(before) {
+                self.hit(format!("edge: {name}"));
+            }
+        }
+    }
+
+    /// Which label it was that is none, or at which i was G.
+    fn damaged_label(&mut self, before: &Record, rule: Rule) {
+        for worker in &before.workers {
+            let label = worker.label;
+            if rule == Rule::Label && NO_LABELS.contains(&label) {
+                self.hit(format!("unsound: label {label}"));
+            }
+            if rule == Rule::I && worker.i == before.g && NOT_12_OR_32.contains(&label) {
+                self.hit(format!("unsound: i is G at label {label}"));
+            }
+        }
+    }
+
+    fn refused(&mut self, call: &Call, outcome: &Outcome) {
+        let word = call.word();
+        let first = &outcome.refusals[0];
+        let why = match (first.number, outcome.refusals.len()) {
+            (1, 2..) => "several at once",
+            _ => first.why,
+        };
+        let comma = if why.is_empty() { "" } else { ", " };
+        self.hit(format!("{word}: refused {}{comma}{why}", first.number));
+        if let (Call::Give { .. }, 9..=11) = (call, first.number) {
+            let place = match first.place {
+                0 => "0",
+                1 => "1",
+                2 => "2",
+                3..=7 => "3 to 7",
+                _ => "8 or more",
+            };
+            self.hit(format!("give: {} at place {place}", first.number));
+        }
+        let mut others: Vec<u32> = outcome.refusals.iter().map(|r| r.number).collect();
+        others.sort_unstable();
+        others.dedup();
+        for other in others {
+            if other != first.number {
+                self.hit(format!("{word}: {} before {other}", first.number));
+            }
+        }
+    }
+
+    fn accepted(
+        &mut self,
+        kind: Kind,
+        before: &Record,
+        list: &[u32],
+        call: &Call,
+        outcome: &Outcome,
+    ) {
+        match *call {
+            Call::Make { w, g, b } => {
+                self.hit("make: accepted".to_string());
+                for end in [format!("W {w}"), format!("G {g}"), format!("B {b}")] {
+                    if MADE.contains(&end.as_str()) {
+                        self.hit(format!("make: accepted, {end}"));
+                    }
+                }
+            }
+            Call::Advance { k } => self.advanced(kind, before, list, k, outcome.branch),
+            _ => self.hit(format!("{}: {}", call.word(), outcome.branch)),
+        }
+    }
+
+    fn advanced(&mut self, kind: Kind, before: &Record, list: &[u32], k: u32, branch: &str) {
+        let Some(worker) = before.worker(k) else {
+            return;
+        };
+        let label = worker.label;
+        debug_assert_ne!(label, IDLE);
+        self.hit(format!("label {label}: {branch}"));
+        if let 18 | 22 | 25 = label {
+            let cell = format!("label {label}: attempts {}", worker.attempts);
+            if kind == Kind::Schedules {
+                self.hit(format!("schedules, {cell}"));
+            }
+            self.hit(cell);
+        }
+        if label == 18 && branch.starts_with("exchanged") {
+            if worker.v == 0 {
+                self.hit("label 18: v is 0, exchanged".to_string());
+            }
+            if worker.v != 0 && worker.v == worker.h.id {
+                self.hit("label 18: h's id is v, exchanged".to_string());
+            }
+        }
+        if label == 32 && !worker.set.is_empty() {
+            let length = if list.len() == worker.set.len() {
+                "as long as"
+            } else {
+                "longer than"
+            };
+            self.hit(format!("label 32: list {length} the set"));
+        }
+    }
+
+    /// The cells that no call has met.
+    pub fn empty(&self) -> Vec<&str> {
+        let empty = self.order.iter().filter(|name| self.counts[*name] == 0);
+        empty.map(String::as_str).collect()
+    }
+
+    /// The cells met that the table does not list.
+    #[cfg(test)]
+    pub fn unlisted(&self) -> Vec<&str> {
+        let names = self.counts.keys().filter(|name| !self.order.contains(name));
+        names.map(String::as_str).collect()
+    }
+
+    pub fn table(&self) -> String {
+        let mut out = String::new();
+        for name in &self.order {
+            let _ = writeln!(out, "{name:<50} {:>9}", self.counts[name]);
+        }
+        out
+    }
+}
+
+#[cfg(test)]
+mod tests {
+    use crate::cases;
+    use crate::stage::{Stage, Way};
+
+    #[test]
+    fn the_table_lists_every_cell_met_and_none_is_empty() {
+        for seed in 1..=3 {
+            let mut stage = Stage::new(20_000, Way::Table);
+            assert!(cases::play(seed, &mut stage).is_ok());
+            assert_eq!(stage.cover.unlisted(), [""; 0]);
+            assert_eq!(stage.cover.empty(), [""; 0]);
+        }
+    }
+}

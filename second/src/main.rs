@@ -1,0 +1,153 @@
+//! An independent second program: it writes cases for a pool engine, knows the results that must come out, and compares.
+
+mod call;
+mod calls;
+mod cases;
+mod cells;
+mod chance;
+mod cover;
+mod edges;
+mod record;
+mod refusals;
+mod sound;
+mod stage;
+mod steps;
+mod text;
+
+#[cfg(test)]
+mod paper;
+
+use stage::{Go, Stage, Stop, Way};
+use std::io::{self, BufRead, BufReader, BufWriter, Write};
+use std::process::ExitCode;
+
+const USAGE: &str = "usage: second cases SEED CALLS     writes the lines of the cases
+       second results SEED CALLS   writes the results that must come out
+       second check SEED CALLS     compares the results on standard input
+       second table SEED CALLS     writes the coverage table
+       second answer               writes the results of the lines on standard input
+";
+
+fn main() -> ExitCode {
+    let arguments: Vec<String> = std::env::args().skip(1).collect();
+    let words: Vec<&str> = arguments.iter().map(String::as_str).collect();
+    let done = match words[..] {
+        ["answer"] => answer(),
+        [command, seed, calls] => match (seed.parse(), calls.parse()) {
+            (Ok(seed), Ok(calls)) => match command {
+                "cases" => cases(seed, calls),
+                "results" => results(seed, calls),
+                "check" => check(seed, calls),
+                "table" => table(seed, calls),
+                _ => return usage(),
+            },
+            _ => return usage(),
+        },
+        _ => return usage(),
+    };
+    match done {
+        Ok(code) => code,
+        Err(error) if error.kind() == io::ErrorKind::BrokenPipe => ExitCode::SUCCESS,
+        Err(error) => {
+            eprintln!("second: {error}");
+            ExitCode::FAILURE
+        }
+    }
+}
+
+fn usage() -> ExitCode {
+    eprint!("{USAGE}");
+    ExitCode::from(2)
+}
+
+fn cases(seed: u64, calls: u64) -> io::Result<ExitCode> {
+    let mut out = BufWriter::new(io::stdout().lock());
+    finish(cases::play(
+        seed,
+        &mut Stage::new(calls, Way::Cases(&mut out)),
+    ))?;
+    out.flush()?;
+    Ok(ExitCode::SUCCESS)
+}
+
+fn results(seed: u64, calls: u64) -> io::Result<ExitCode> {
+    let mut out = BufWriter::new(io::stdout().lock());
+    finish(cases::play(
+        seed,
+        &mut Stage::new(calls, Way::Results(&mut out)),
+    ))?;
+    out.flush()?;
+    Ok(ExitCode::SUCCESS)
+}
+
+fn check(seed: u64, calls: u64) -> io::Result<ExitCode> {
+    let mut input = BufReader::new(io::stdin().lock());
+    let mut stage = Stage::new(calls, Way::Check(&mut input));
+    let played = cases::play(seed, &mut stage).and_then(|()| stage.close());
+    if let Some(report) = finish(played)? {
+        say(&report)?;
+        return Ok(ExitCode::FAILURE);
+    }
+    say(&format!("{calls} calls compared, no difference\n\n"))?;
+    show(&stage)
+}
+
+fn table(seed: u64, calls: u64) -> io::Result<ExitCode> {
+    let mut stage = Stage::new(calls, Way::Table);
+    finish(cases::play(seed, &mut stage))?;
+    show(&stage)
+}
+
+/// The report of a difference, if there was one.
+fn finish(played: Go) -> io::Result<Option<String>> {
+    match played {
+        Ok(()) | Err(Stop::Done) => Ok(None),
+        Err(Stop::Difference(report)) => Ok(Some(report)),
+        Err(Stop::Io(error)) => Err(error),
+    }
+}
+
+/// Nobody reading on is no reason to end in another way.
+fn say(text: &str) -> io::Result<()> {
+    match io::stdout().write_all(text.as_bytes()) {
+        Err(error) if error.kind() == io::ErrorKind::BrokenPipe => Ok(()),
+        other => other,
+    }
+}
+
+fn show(stage: &Stage) -> io::Result<ExitCode> {
+    say(&stage.cover.table())?;
+    let empty = stage.cover.empty();
+    if empty.is_empty() {
+        return Ok(ExitCode::SUCCESS);
+    }
+    say(&format!("\nempty cells:\n  {}\n", empty.join("\n  ")))?;
+    Ok(ExitCode::FAILURE)
+}
+
+/// The model in the engine's place: so the lines of the cases can be tried against the results.
+fn answer() -> io::Result<ExitCode> {
+    let mut out = BufWriter::new(io::stdout().lock());
+    let mut record = record::Record::zero();
+    let mut list = Vec::new();
+    let mut text = String::new();
+    for (n, line) in BufReader::new(io::stdin().lock()).lines().enumerate() {
+        match text::read_line(&mut record, &mut list, &line?) {
+            None => {
+                writeln!(out, "line {} not understood", n + 1)?;
+                break;
+            }
+            Some(None) => {}
+            Some(Some(call)) => {
+                let outcome = calls::run(&record, &list, &call);
+                text.clear();
+                text::write_result(&mut text, outcome.answer, &outcome.record, &outcome.list);
+                out.write_all(text.as_bytes())?;
+                record = outcome.record;
+                list = outcome.list;
+            }
+        }
+    }
+    out.flush()?;
+    Ok(ExitCode::SUCCESS)
+}

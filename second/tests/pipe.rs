@@ -1,0 +1,123 @@
+//! The commands together: results into check, a changed line, a missing one, one too many, and the lines of the cases.
+
+use std::io::Write;
+use std::process::{Command, Output, Stdio};
+
+fn second(arguments: &[&str], input: &[u8]) -> Output {
+    let mut child = Command::new(env!("CARGO_BIN_EXE_second"))
+        .args(arguments)
+        .stdin(Stdio::piped())
+        .stdout(Stdio::piped())
+        .stderr(Stdio::piped())
+        .spawn()
+        .unwrap();
+    let mut stdin = child.stdin.take().unwrap();
+    let input = input.to_vec();
+    let writer = std::thread::spawn(move || {
+        // A program that stops at a difference reads no further.
+        let _ = stdin.write_all(&input);
+    });
+    let output = child.wait_with_output().unwrap();
+    writer.join().unwrap();
+    output
+}
+
+fn text(output: &Output) -> String {
+    String::from_utf8_lossy(&output.stdout).into_owned()
+}
+
+fn results(calls: &str) -> String {
+    text(&second(&["results", "3", calls], b""))
+}
+
+#[test]
+fn the_results_pass() {
+    let output = second(&["check", "3", "20000"], results("20000").as_bytes());
+    assert!(text(&output).starts_with("20000 calls compared, no difference\n"));
+    assert_eq!(output.status.code(), Some(0));
+}
+
+#[test]
+fn the_lines_of_the_cases_give_the_results() {
+    let cases = text(&second(&["cases", "3", "5000"], b""));
+    let output = second(&["answer"], cases.as_bytes());
+    assert!(text(&output) == results("5000"));
+    assert!(cases.lines().all(|line| line.len() <= 8_000));
+}
+
+#[test]
+fn a_changed_line_is_found() {
+    let mut changed: Vec<String> = results("900").lines().map(String::from).collect();
+    let last = changed.iter().rposition(|line| line.starts_with("pool"));
+    changed[last.unwrap()].push('1');
+    let output = second(
+        &["check", "3", "900"],
+        (changed.join("\n") + "\n").as_bytes(),
+    );
+    assert!(text(&output).starts_with("call 900: a difference\nkind: "));
+    assert_eq!(output.status.code(), Some(1));
+}
+
+#[test]
+fn the_first_of_two_differences_is_told() {
+    let changed = results("900").replacen("answer at 4", "answer at 5", 2);
+    let whole = results("900");
+    let before = whole.split("answer at 4").next().unwrap();
+    let number = before.matches("answer").count() + 1;
+    let output = second(&["check", "3", "900"], changed.as_bytes());
+    assert!(text(&output).starts_with(&format!("call {number}: a difference\n")));
+    assert!(text(&output).contains("\nthe call:\nadvance"));
+    assert!(text(&output).contains("\nthe result got:\nanswer at 5\n"));
+    assert_eq!(output.status.code(), Some(1));
+}
+
+#[test]
+fn output_that_ends_early_is_a_difference() {
+    let output = second(&["check", "3", "900"], results("899").as_bytes());
+    assert!(text(&output).starts_with("call 900: a difference\n"));
+    assert!(text(&output).ends_with("(the output ended)\n"));
+    assert_eq!(output.status.code(), Some(1));
+}
+
+#[test]
+fn output_without_its_last_line_feed_is_a_difference() {
+    let whole = results("900");
+    let output = second(&["check", "3", "900"], whole.trim_end().as_bytes());
+    assert!(text(&output).starts_with("call 900: a difference\n"));
+    assert_eq!(output.status.code(), Some(1));
+}
+
+#[test]
+fn more_output_is_a_difference() {
+    let more = results("900") + "line 7 not understood\n";
+    let output = second(&["check", "3", "900"], more.as_bytes());
+    assert!(text(&output).starts_with("after call 900: more output:\nline 7"));
+    assert_eq!(output.status.code(), Some(1));
+}
+
+#[test]
+fn empty_cells_are_named() {
+    let output = second(&["table", "3", "30"], b"");
+    assert!(text(&output).contains("\nempty cells:\n"));
+    assert_eq!(output.status.code(), Some(1));
+    let output = second(&["check", "3", "30"], results("30").as_bytes());
+    assert!(text(&output).starts_with("30 calls compared, no difference\n"));
+    assert_eq!(output.status.code(), Some(1));
+}
+
+#[test]
+fn a_shorter_run_is_the_beginning_of_a_longer_one() {
+    assert!(results("5000").starts_with(&results("1234")));
+}
+
+#[test]
+fn bad_usage() {
+    for arguments in [
+        &["cases", "1"][..],
+        &["cases", "1", "x"],
+        &["other", "1", "2"],
+        &[],
+    ] {
+        assert_eq!(second(arguments, b"").status.code(), Some(2));
+    }
+}
