@@ -18,6 +18,7 @@ use crate::Refusal;
 use idset::IdSet;
 use worker::Slot;
 use worker::Worker;
+use worker::lent::advance_alone;
 
 // A slot's version never wraps.
 const LARGEST_VERSION: u32 = 4294967295;
@@ -131,7 +132,7 @@ impl Pool {
     {
         let me = self.workers[k];
         let none = Slot { id: 0, version: 0 };
-        let step = me.step(self.maxg, 0, false, none);
+        let step = advance_alone(me, self.maxg, 0, false, none);
         let x = step.worker;
         self.puts(k, x)
     }
@@ -150,7 +151,7 @@ impl Pool {
         };
         let set = self.sets[k];
         let member = set.has(posted);
-        let step = me.step(self.maxg, posted, member, slot);
+        let step = advance_alone(me, self.maxg, posted, member, slot);
         let x = step.worker;
         self.puts(k, x)
     }

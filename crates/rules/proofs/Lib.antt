@@ -1,6 +1,7 @@
--- What is shown of the pool's rules: `specs/` states the first two, the files below say what each of the others states.
+-- What is shown of the pool's rules: `specs/` states the first three, the files below say what each of the others states.
 pub mod Determined
 pub mod Cases
+pub mod Lent
 -- a made pool; a sound record stays sound
 pub mod Fresh
 pub mod ListChecked

@@ -2,3 +2,4 @@
 pub mod Calls
 pub mod Determined
 pub mod Cases
+pub mod Lent

@@ -1,2 +1,3 @@
 -- Laws of the step that callers cite.
 pub mod Laws
+mod Beside

@@ -1,4 +1,5 @@
 // One worker's registers, and its advance at the labels that store to nothing but them.
+pub mod lent;
 mod step;
 
 // A hand-off slot's contents.

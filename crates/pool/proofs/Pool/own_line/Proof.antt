@@ -10,8 +10,8 @@ mul-me c = search needs
 element-copy-out-me : tie.Need-element-copy-out-me
 element-copy-out-me c = search needs
 
-step-requires : tie.Need-step-requires
-step-requires c κs = search needs
+advance-alone-requires : tie.Need-advance-alone-requires
+advance-alone-requires c κs = search needs
 
 puts-requires : tie.Need-puts-requires
 puts-requires c κs = search needs
@@ -20,4 +20,4 @@ returns : tie.Need-returns
 returns c = search closings depth 12
 
 pub own-line-spec : {M : Type 1} → statement M
-own-line-spec = tie.close (tie.spec mul-me element-copy-out-me step-requires puts-requires returns)
+own-line-spec = tie.close (tie.spec mul-me element-copy-out-me advance-alone-requires puts-requires returns)

@@ -25,11 +25,11 @@ mul-t12 c = search needs
 element-copy-out-t18 : tie.Need-element-copy-out-t18
 element-copy-out-t18 c = search needs
 
-mul-step : tie.Need-mul-step
-mul-step c = search needs
+mul-advance-alone : tie.Need-mul-advance-alone
+mul-advance-alone c = search needs
 
-element-copy-out-step : tie.Need-element-copy-out-step
-element-copy-out-step c = search needs
+element-copy-out-advance-alone : tie.Need-element-copy-out-advance-alone
+element-copy-out-advance-alone c = search needs
 
 mul-set : tie.Need-mul-set
 mul-set c = search needs
@@ -40,15 +40,15 @@ element-copy-out-set c = search needs
 has-requires : tie.Need-has-requires
 has-requires c κs = search needs
 
-step-requires : tie.Need-step-requires
-step-requires c κs = search needs
+advance-alone-requires : tie.Need-advance-alone-requires
+advance-alone-requires c κs = search needs
 
 puts-requires : tie.Need-puts-requires
 puts-requires c κs = search needs
 
 returns : tie.Need-returns
 returns c =
-    rw (← (c .before .before .before .has .ensures)) (then-step _ _ _ _ _ (c .puts .ensures) (c .before .before .step .ensures))
+    rw (← (c .before .before .before .has .ensures)) (then-step _ _ _ _ _ (c .puts .ensures) (c .before .before .advance-alone .ensures))
 
 pub own-line-at-guard-spec : {M : Type 1} → statement M
 own-line-at-guard-spec =
@@ -61,11 +61,11 @@ own-line-at-guard-spec =
     element-copy-out-posted
     mul-t12
     element-copy-out-t18
-    mul-step
-    element-copy-out-step
+    mul-advance-alone
+    element-copy-out-advance-alone
     mul-set
     element-copy-out-set
     has-requires
-    step-requires
+    advance-alone-requires
     puts-requires
     returns)
