@@ -216,6 +216,12 @@ const BEFORE: [(&str, &[(u32, u32)]); 8] = [
     ("size", &[(2, 3)]),
 ];
 
+pub const LAST: [&str; 3] = [
+    "last: size of a set with buffer 256",
+    "last: buffer 256 handed back",
+    "last: audit with a buffer in slot 31",
+];
+
 /// The names of all cells, in the order of the table.
 pub fn all() -> Vec<String> {
     let mut all: Vec<String> = Vec::new();
@@ -251,5 +257,6 @@ pub fn all() -> Vec<String> {
     let labels = NOT_12_OR_32.iter();
     all.extend(labels.map(|n| format!("unsound: i is G at label {n}")));
     all.extend(edges::NAMES.iter().map(|name| format!("edge: {name}")));
+    all.extend(LAST.iter().map(|name| name.to_string()));
     all
 }

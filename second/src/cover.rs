@@ -3,7 +3,7 @@
 use crate::call::{Answer, Call};
 use crate::calls::Outcome;
 use crate::cases::Kind;
-use crate::cells::{self, MADE};
+use crate::cells::{self, LAST, MADE};
 use crate::edges;
 use crate::record::{Record, IDLE};
 use crate::sound::{self, Rule, NOT_12_OR_32, NO_LABELS, RULES};
@@ -46,6 +46,7 @@ impl Cover {
         if matches!(call, Call::Make { .. }) {
             return;
         }
+        self.last_ones(before, call, outcome);
         // A rule counts as tested when it alone is broken.
         if let [alone] = sound::broken(before)[..] {
             if let Some((_, name)) = RULES.iter().find(|(rule, _)| *rule == alone) {
@@ -58,6 +59,18 @@ impl Cover {
                 self.hit(format!("edge: {name}"));
             }
         }
+    }
+
+    /// The last buffer and the last guard of the largest pool, where a scan that ends too early shows.
+    fn last_ones(&mut self, before: &Record, call: &Call, outcome: &Outcome) {
+        let has_last = |k: u32| before.worker(k).is_some_and(|w| w.set.contains(&256));
+        let name = match (call, outcome.answer) {
+            (Call::Size { k }, Answer::Count(_)) if has_last(*k) => LAST[0],
+            (Call::Advance { k }, Answer::Back(_)) if has_last(*k) => LAST[1],
+            (Call::Audit, Answer::Clear) if before.guards[31].slot.id != 0 => LAST[2],
+            _ => return,
+        };
+        self.hit(name.to_string());
     }
 
     /// Which label it was that is none, or at which i was G.

@@ -3,11 +3,14 @@
 use super::build;
 use crate::call::{Answer, Call};
 use crate::chance::Chance;
-use crate::record::{IN_SERVICE, LARGEST};
+use crate::record::{Record, Slot, IN_SERVICE, LARGEST, LEAVING};
 use crate::stage::{Go, Stage};
 
 pub fn run(stage: &mut Stage, chance: &mut Chance) -> Go {
     stage.lend(vec![])?;
+    if chance.percent(10) {
+        return last_ones(stage, chance);
+    }
     let w = size(chance, &[1, 1, 8], &[0, 9, LARGEST]);
     let g = size(chance, &[1, 2, 32], &[0, 33, LARGEST]);
     let b = size(chance, &[1, 3, 256], &[0, 257, LARGEST]);
@@ -55,6 +58,26 @@ fn settle(stage: &mut Stage, chance: &mut Chance) -> Go {
         worker.v = v;
     }
     stage.lay(record)
+}
+
+/// The last worker hands the last buffer back, and the last guard's slot holds the one before it.
+fn last_ones(stage: &mut Stage, chance: &mut Chance) -> Go {
+    let mut record = Record::fresh(8, 32, 256);
+    record.set_state(255, LEAVING);
+    record.set_state(256, LEAVING);
+    record.guard_mut(31).slot = Slot {
+        id: 255,
+        version: 1,
+    };
+    let worker = record.worker_mut(8);
+    worker.label = 32;
+    worker.set.insert(256);
+    stage.lay(record)?;
+    stage.lend(vec![7; chance.below(3) as usize])?;
+    stage.call(Call::Size { k: 8 })?;
+    stage.call(Call::Audit)?;
+    stage.call(Call::Advance { k: 8 })?;
+    Ok(())
 }
 
 fn worker(chance: &mut Chance, w: u32) -> u32 {
