@@ -1,35 +1,43 @@
 -- From the line that a label takes to the table, and from what the hand-back's loops made to label 32. Assumes nothing.
-use mathlib.Core.Path.{_≡_, refl, ap}
+use mathlib.Core.Path.{_≡_, refl, ap, _∙_}
 use mathlib.Core.Bool.{Bool, true, false, not, _||_}
 use mathlib.Core.List.{List}
 use Prim.Native.Nat.{ℕ, suc, _-_, _≤_, _<_}
+use native.Mathlib.Decide.{ℕ-discrete}
 use native.Mathlib.Omega.{arith}
-use lib.Dec.{eqb}
+use lib.Dec.{eqb, ltb}
 use lib.ListN.{length, getD}
-use borrow.Author.Tests.{lt-ltb, le-ltb, not-true, not-false}
+use lib.Seq.{set-getD}
+use borrow.Author.Tests.{ne-eqb, lt-ltb, le-ltb, not-true, not-false}
 use Rattle.basics.specs.Pick.{when, unless}
+use Rattle.basics.specs.Among.{among}
 use Rattle.basics.specs.Below.{allBelow, table}
 use Rattle.basics.proofs.All.{all-cong}
 use Rattle.basics.proofs.Table.{table-cong}
 use Rattle.idset.specs.Members.{memberOf, sizeOf}
 use Rattle.worker.specs.declared.Worker.{Worker}
 use Rattle.worker.specs.declared.Stepped.{Stepped}
-use Rattle.worker.specs.Registers.{largest, noSlot}
-use Rattle.worker.specs.Steps.{moved, stepOf}
+use Rattle.worker.specs.Registers.{largest}
 use Rattle.worker.proofs.Laws.{step-4, step-12, step-13, step-15, step-22, step-25, step-31}
 use Rattle.pool.specs.declared.Pool.{Pool}
 use Rattle.pool.specs.declared.WorkerNo.{WorkerNo}
 use Rattle.pool.specs.declared.Refusal.{Refusal}
+use Rattle.pool.specs.declared.Reach.{Reach}
+use Rattle.pool.specs.declared.Moved.{Moved}
 use Rattle.pool.specs.declared.Verdict.{Verdict}
 use Rattle.pool.specs.declared.Verdict.the-variants.{Fine, Fault}
 use Rattle.pool.specs.Answers.{Told, Check, fine, refuse, numberOf, verdict, first, answering, refused, back, afterCheck}
+use Rattle.pool.specs.Sound.{soundOf}
 use Rattle.pool.specs.Record.{stateOf, workerAt, setAt, withStates}
-use Rattle.pool.specs.Steps.{iOf, postedHere, slotHere, puts, ends, line32, lineOf, handCheck, lineCheck, standCheck, advanceCheck, advanceOf, handed, listAfterCheck, listAfter}
-use Rattle.pool.specs.Checks.{workerOf}
-use Rattle.pool.specs.Ready.{Ready}
+use Rattle.pool.specs.Steps.{iOf, puts, ends, line32, lineOf, handCheck, lineCheck, standCheck, advanceCheck, advanceOf, handed, listAfterCheck, listAfter}
+use Rattle.pool.specs.Checks.{workerOf, workerCheck}
+use Rattle.pool.specs.Ready.{Stands}
+use Rattle.pool.specs.Reach.{reachAt, storedAt, putting, ownStep, Takes, TakesLine}
 use Rattle.pool.proofs.Told.{fine-by, refuse-by}
 use Rattle.pool.proofs.Scans.{entry}
-use Rattle.pool.proofs.Standing.{standing}
+use Rattle.pool.proofs.Standing.{before32, stands, in-use, place-most, ready, last-label}
+use Rattle.pool.proofs.Parts.{sizes-of}
+use Rattle.pool.proofs.Checked.{named-by}
 
 -- ---- after a check, by what it found
 
@@ -58,65 +66,78 @@ list-same (refuse n place) l = refl
 
 -- ---- an arm of the dispatch
 
-abbrev pub Outcomes : ℕ → ℕ → Pool → List ℕ → Told → List ℕ → Type 0
-Outcomes l k p out t after =
-    (t ≡ afterCheck (lineCheck l k p (length out)) p (lineOf l k p))
-    × (after ≡ listAfterCheck (lineCheck l k p (length out)) out (when (eqb l 32) (handed (setAt p k) out) out))
+-- the line of label l, with its check
+abbrev Full : ℕ → ℕ → Pool → ℕ → Told
+Full l k p room = afterCheck (lineCheck l k p room) p (lineOf l k p)
 
--- the label is n, which writes no list, and the line of n was taken
-pub arm : (l n k : ℕ) (p : Pool) (out : List ℕ) (t : Told) → l ≡ n → eqb n 32 ≡ false
-    → t ≡ afterCheck (lineCheck n k p (length out)) p (lineOf n k p) → Outcomes l k p out t out
-unfolding when
-arm l n k p out t e f h = rw e (h, rw f (list-same (lineCheck n k p (length out)) out))
+-- what an own line makes of the record
+own-stored : (k i : ℕ) (p : Pool) (x : Worker) → storedAt k i (putting x (reachAt k i p)) p ≡ puts k x p
+unfolding puts
+own-stored k i p x = simp set-getD
 
--- the worker's own step was taken
-pub own-arm : (t : Told) (k : ℕ) (s : Stepped) (x : Worker) (p : Pool) → t ≡ puts k (s .worker) p → s ≡ moved x → t ≡ puts k x p
-own-arm t k s x p h e = rw e at h
+module _ (s : Reach) (m : Moved) where
+  -- the worker is at label n, and so at a guard, and f is the line of n
+  pub arm : (n : ℕ) {f : ℕ → Pool → Told} → ((k room : ℕ) (p : Pool) → f k p ≡ Full n k p room) → (eqb n 12 || eqb n 32) ≡ false
+      → Takes f s m → s .me .label ≡ n → TakesLine s m
+  arm n line short taken e k i p q st here not-last room =
+      let at : workerAt p k .label ≡ n = rw q at e in
+      rw at (taken k i p q (here (ready p k n st at short .i-below)) ∙ line k room p)
 
--- the worker's own step as `own_line` and `own_line_at_guard` take it
-module _ (p : Pool) (k : ℕ) (out : List ℕ) (t : Told) where
-  module _ (h : t ≡ puts k (stepOf (workerAt p k) (p .maxg) 0 false noSlot .worker) p) where
-    pub own4 : workerAt p k .label ≡ 4 → Outcomes (workerAt p k .label) k p out t out
+  module _ (made : m ≡ putting (ownStep s) s) where
+    own-arm : (n : ℕ) → s .me .label ≡ n
+        → ((k i : ℕ) (p : Pool) → Stands p k → (iOf p k < 32 → i ≡ iOf p k) → workerAt p k .label ≡ n → (room : ℕ)
+        → puts k (ownStep (reachAt k i p)) p ≡ Full n k p room) → TakesLine s m
+    own-arm n e line k i p q st here not-last room =
+        let at : workerAt p k .label ≡ n = rw q at e in
+        rw (at, made, q) (own-stored k i p (ownStep (reachAt k i p)) ∙ line k i p st here at room)
+
+    pub own4 : s .me .label ≡ 4 → TakesLine s m
     unfolding lineOf lineCheck when afterCheck
-    own4 e = arm _ 4 k p out t e refl (own-arm t k _ _ p h (step-4 (workerAt p k) (p .maxg) 0 false noSlot e))
+    own4 e = own-arm 4 e (λ k i p st here at room. ap (λ (z : Stepped). puts k (z .worker) p) (step-4 _ _ _ _ _ at))
 
-    pub own12 : workerAt p k .label ≡ 12 → Outcomes (workerAt p k .label) k p out t out
+    pub own12 : s .me .label ≡ 12 → TakesLine s m
     unfolding lineOf lineCheck when afterCheck
-    own12 e = arm _ 12 k p out t e refl (own-arm t k _ _ p h (step-12 (workerAt p k) (p .maxg) 0 false noSlot e))
+    own12 e = own-arm 12 e (λ k i p st here at room. ap (λ (z : Stepped). puts k (z .worker) p) (step-12 _ _ _ _ _ at))
 
-    pub own31 : Ready p k → workerAt p k .label ≡ 31 → Outcomes (workerAt p k .label) k p out t out
+    pub own13 : s .me .label ≡ 13 → TakesLine s m
     unfolding lineOf lineCheck when afterCheck
-    own31 r e =
-        let room : iOf p k < largest = omega (arith, r .i-below) in
-        arm _ 31 k p out t e refl (own-arm t k _ _ p h (step-31 (workerAt p k) (p .maxg) 0 false noSlot e room))
+    own13 e =
+        own-arm 13 e (λ k i p st here at room.
+        rw (here (ready p k 13 st at refl .i-below)) (ap (λ (z : Stepped). puts k (z .worker) p) (step-13 _ _ _ _ _ at)))
 
-  module _ (h : t ≡ puts k (stepOf (workerAt p k) (p .maxg) (postedHere p k) (memberOf (setAt p k) (postedHere p k)) (slotHere p k) .worker) p) where
-    abbrev member : Bool
-    member = memberOf (setAt p k) (postedHere p k)
-
-    pub own13 : workerAt p k .label ≡ 13 → Outcomes (workerAt p k .label) k p out t out
+    pub own15 : s .me .label ≡ 15 → TakesLine s m
     unfolding lineOf lineCheck when afterCheck
-    own13 e = arm _ 13 k p out t e refl (own-arm t k _ _ p h (step-13 (workerAt p k) (p .maxg) (postedHere p k) member (slotHere p k) e))
+    own15 e =
+        own-arm 15 e (λ k i p st here at room.
+        rw (here (ready p k 15 st at refl .i-below)) (ap (λ (z : Stepped). puts k (z .worker) p) (step-15 _ _ _ _ _ at)))
 
-    pub own15 : workerAt p k .label ≡ 15 → Outcomes (workerAt p k .label) k p out t out
+    pub own22 : s .me .label ≡ 22 → TakesLine s m
     unfolding lineOf lineCheck when afterCheck
-    own15 e = arm _ 15 k p out t e refl (own-arm t k _ _ p h (step-15 (workerAt p k) (p .maxg) (postedHere p k) member (slotHere p k) e))
+    own22 e =
+        own-arm 22 e (λ k i p st here at room.
+        let r = ready p k 22 st at refl in
+        rw (here (r .i-below)) (ap (λ (z : Stepped). puts k (z .worker) p) (step-22 _ _ _ _ _ at (omega (arith, r .attempts-most)))))
 
-    pub own22 : Ready p k → workerAt p k .label ≡ 22 → Outcomes (workerAt p k .label) k p out t out
+    pub own25 : s .me .label ≡ 25 → TakesLine s m
     unfolding lineOf lineCheck when afterCheck
-    own22 r e =
-        let room : workerAt p k .attempts < largest = omega (arith, r .attempts-most) in
-        arm _ 22 k p out t e refl (own-arm t k _ _ p h (step-22 (workerAt p k) (p .maxg) (postedHere p k) member (slotHere p k) e room))
+    own25 e =
+        own-arm 25 e (λ k i p st here at room.
+        rw (here (ready p k 25 st at refl .i-below)) (ap (λ (z : Stepped). puts k (z .worker) p) (step-25 _ _ _ _ _ at)))
 
-    pub own25 : workerAt p k .label ≡ 25 → Outcomes (workerAt p k .label) k p out t out
+    own31 : s .me .label ≡ 31 → TakesLine s m
     unfolding lineOf lineCheck when afterCheck
-    own25 e = arm _ 25 k p out t e refl (own-arm t k _ _ p h (step-25 (workerAt p k) (p .maxg) (postedHere p k) member (slotHere p k) e))
+    own31 e =
+        own-arm 31 e (λ k i p st here at room.
+        ap (λ (z : Stepped). puts k (z .worker) p) (step-31 _ _ _ _ _ at (omega (arith, ready p k 31 st at refl .i-below))))
 
--- none of the labels before 32
-pub last-arm : (l k : ℕ) (p : Pool) (out : List ℕ) (t : Told) (after : List ℕ) → l ≡ 32 → t ≡ afterCheck (handCheck k p (length out)) p (line32 k p)
-    → after ≡ listAfterCheck (handCheck k p (length out)) out (handed (setAt p k) out) → Outcomes l k p out t after
-unfolding lineOf lineCheck when
-last-arm l k p out t after e h q = rw e (h, q)
+    -- at none of the labels before 31, and not at 32 either
+    pub own-last : ((s .me .label ≡ 31 → ⊥) → among before32 (s .me .label) ≡ false) → TakesLine s m
+    own-last none k i p q st here not-last room =
+        go (ℕ-discrete (s .me .label) 31)
+      where
+        go : Dec (s .me .label ≡ 31) → storedAt k i m p ≡ Full (workerAt p k .label) k p room
+        go (yes e) = own31 e k i p q st here not-last room
+        go (no n) = absurd (not-last (last-label st (rw q at (none n))))
 
 -- ---- label 32
 
@@ -155,20 +176,53 @@ module _ (k : ℕ) (p : Pool) (room : ℕ) where
 
 -- ---- the call, from its check and its line
 
-module _ (v : Verdict) (p : Pool) (w : WorkerNo) (e : verdict v ≡ standCheck p w) (out : List ℕ) where
+pub judged : (v : Verdict) (s : Bool) (p : Pool) (w : WorkerNo)
+    → verdict v ≡ unless s (refuse 2 0) (when (ltb (w .0) 1) (refuse 3 0) (when (ltb (p .w) (w .0)) (refuse 3 0) fine)) → s ≡ soundOf p
+    → verdict v ≡ workerCheck p w
+unfolding workerCheck
+judged v s p w h e = rw e at h
+
+module _ (v : Verdict) (p : Pool) (w : WorkerNo) (e : verdict v ≡ workerCheck p w) (out : List ℕ) where
   module _ (r : Refusal) (place : ℕ) (q : v ≡ Fault r place) where
     pub stopped : answering (refused (numberOf r) place) p ≡ advanceOf p w out
-    unfolding advanceOf advanceCheck first afterCheck
+    unfolding advanceOf advanceCheck standCheck first afterCheck
     stopped = rw (refuse-by v e r place q)
 
     pub stopped-list : out ≡ listAfter p w out
-    unfolding listAfter advanceCheck first listAfterCheck
+    unfolding listAfter advanceCheck standCheck first listAfterCheck
     stopped-list = rw (refuse-by v e r place q)
 
-  pub advance-goes : v ≡ Fine → (t : Told) (after : List ℕ) → Outcomes (workerOf p w .label) (w .0 - 1) p out t after
-      → (t ≡ advanceOf p w out) × (after ≡ listAfter p w out)
-  unfolding advanceOf listAfter advanceCheck first
-  advance-goes q t after h = rw (fine-by v e q) h
+  module _ (q : v ≡ Fine) where
+    pub some : 1 ≤ w .0
+    some = named-by v p w e q .some
 
-  pub standing-some : v ≡ Fine → 1 ≤ w .0
-  standing-some q = standing p w (fine-by v e q) .worker .some
+    pub entry-below : w .0 - 1 < 8
+    entry-below = let n = named-by v p w e q in omega (arith, n .sizes)
+
+    pub idle-stops : workerOf p w .label ≡ 0 → (answering (refused 5 0) p ≡ advanceOf p w out) × (out ≡ listAfter p w out)
+    unfolding advanceOf listAfter advanceCheck standCheck first afterCheck listAfterCheck when
+    idle-stops idle = rw (fine-by v e q, idle) (refl, refl)
+
+    module _ (busy : workerOf p w .label ≡ 0 → ⊥) where
+      may-stand : standCheck p w ≡ fine
+      unfolding standCheck first when
+      may-stand = rw (fine-by v e q, ne-eqb (workerOf p w .label) 0 busy)
+
+      pub here-stands : Stands p (w .0 - 1)
+      here-stands = stands p w may-stand
+
+      pub i-least : workerOf p w .i < largest
+      i-least = omega (arith, place-most (p .g) (workerOf p w) (in-use here-stands .place), sizes-of p (here-stands .sound) .g-most)
+
+      -- at any label but 32 the line is that of what is in reach, and writes no list
+      pub line-goes : (t : Told) → (workerOf p w .label ≡ 32 → ⊥) → t ≡ Full (workerOf p w .label) (w .0 - 1) p (length out)
+          → (t ≡ advanceOf p w out) × (out ≡ listAfter p w out)
+      unfolding advanceOf listAfter advanceCheck first when
+      line-goes t not-last h =
+          rw may-stand (h, rw (ne-eqb (workerOf p w .label) 32 not-last) (list-same (lineCheck (workerOf p w .label) (w .0 - 1) p (length out)) out))
+
+      pub hand-goes : (t : Told) (after : List ℕ) → workerOf p w .label ≡ 32 → t ≡ afterCheck (handCheck (w .0 - 1) p (length out)) p (line32 (w .0 - 1) p)
+          → after ≡ listAfterCheck (handCheck (w .0 - 1) p (length out)) out (handed (setAt p (w .0 - 1)) out)
+          → (t ≡ advanceOf p w out) × (after ≡ listAfter p w out)
+      unfolding advanceOf listAfter advanceCheck first lineOf lineCheck when
+      hand-goes t after last h g = rw (may-stand, last) (h, g)

@@ -11,6 +11,6 @@ pub mod Scans
 pub mod Lists
 pub mod Audit
 -- for the code: the advance
-pub mod Closings
 pub mod Handed
+pub mod Reached
 pub mod Dispatch

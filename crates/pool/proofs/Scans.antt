@@ -1,24 +1,41 @@
 -- The scans of the soundness test make up the rules, in whatever order each is asked. Assumes nothing.
-use mathlib.Core.Path.{_≡_, ap, ap₂, _∙_}
-use mathlib.Core.Bool.{Bool, not, _&&_, _||_}
+use mathlib.Core.Path.{_≡_, sym, ap, ap₂, _∙_}
+use mathlib.Core.Bool.{Bool, true, not, _&&_, _||_}
 use mathlib.Core.List.{List}
-use Prim.Native.Nat.{ℕ, suc}
+use Prim.Native.Nat.{ℕ, suc, _≤_}
 use native.Mathlib.Omega.{arith}
 use lib.Dec.{eqb, leb, ltb}
 use lib.ListN.{getD}
+use borrow.Author.Tests.{lt-ltb, le-ltb}
 use Rattle.basics.specs.Below.{allBelow}
 use Rattle.basics.proofs.Truth.{reorder}
-use Rattle.basics.proofs.All.{all-and, all-or-and, all-cong}
+use Rattle.basics.proofs.All.{all-of, all-and, all-or-and, all-cong}
 use Rattle.pool.specs.declared.Pool.{Pool}
 use Rattle.pool.specs.Record.{takenAt, employerAt, postedAt, slotAt, stateOf, workerAt, setAt}
 use Rattle.pool.specs.Sound.{countsSound, guardsBeyond, buffersBeyond, workersBeyond, beyondSound, isLabel, kindsSound, workerIds, idsSound, registersIn, registersSound, soundOf}
-use Rattle.pool.specs.Scans.{zeroFrom, fits, untakenFrom, workerFitsAt}
+use Rattle.pool.specs.Scans.{most, zeroFrom, untakenFrom, workerFitsAt}
 
-abbrev most : List ℕ → ℕ → ℕ → Bool
-most xs limit k = leb (getD xs k 0) limit
+-- ---- a scan from the count on
 
-fits-two : (n : ℕ) (xs : List ℕ) (limit count : ℕ) → allBelow n (fits xs limit count) ≡ (allBelow n (most xs limit) && allBelow n (zeroFrom xs count))
-fits-two n xs limit count = all-and n (most xs limit) (zeroFrom xs count)
+-- f need hold from the count on only
+module _ (f : ℕ → Bool) (count : ℕ) where
+  abbrev beyond : ℕ → Bool
+  beyond k = ltb k count || f k
+
+  pub none-asked : (n : ℕ) → n ≤ count → true ≡ allBelow n beyond
+  none-asked n h = sym (all-of n beyond (λ k l. rw (lt-ltb k count (omega arith))))
+
+  pub asked : (k : ℕ) → count ≤ k → f k ≡ beyond k
+  asked k h = rw (le-ltb k count h)
+
+pub none-zero : (xs : List ℕ) (count n : ℕ) → n ≤ count → true ≡ allBelow n (zeroFrom xs count)
+none-zero xs = none-asked (λ k. eqb (getD xs k 0) 0)
+
+-- ---- the scans together
+
+-- entry k is a state, and free beyond the count
+abbrev pub fits : List ℕ → ℕ → ℕ → Bool
+fits xs count k = most xs 2 k && zeroFrom xs count k
 
 module _ (p : Pool) where
   abbrev used : ℕ → Bool
@@ -46,8 +63,8 @@ module _ (p : Pool) where
   states-most : allBelow 256 (most (p .states) 2) ≡ allBelow 256 (λ k. leb (stateOf p (suc k)) 2)
   states-most = all-cong 256 (most (p .states) 2) (λ k. leb (stateOf p (suc k)) 2) (λ k l. ap (λ (x : ℕ). leb x 2) (entry k))
 
-  pub states-fit : allBelow 256 (fits (p .states) 2 (p .b)) ≡ (allBelow 256 (λ k. leb (stateOf p (suc k)) 2) && allBelow 256 (buffersBeyond p))
-  states-fit = fits-two 256 (p .states) 2 (p .b) ∙ ap₂ _&&_ states-most buffers-beyond
+  pub states-fit : allBelow 256 (fits (p .states) (p .b)) ≡ (allBelow 256 (λ k. leb (stateOf p (suc k)) 2) && allBelow 256 (buffersBeyond p))
+  states-fit = all-and 256 (most (p .states) 2) (zeroFrom (p .states) (p .b)) ∙ ap₂ _&&_ states-most buffers-beyond
 
   abbrev label : ℕ → Bool
   label k = isLabel (workerAt p k .label)
@@ -72,13 +89,16 @@ reordered : (c t e₀ e p₀ p s₀ s v₀ b₀ b w₀ l i r : Bool)
 reordered c t e₀ e p₀ p s₀ s v₀ b₀ b w₀ l i r = simp reorder
 
 scanned : (p : Pool)
-    → (countsSound p && allBelow 32 (untakenFrom (p .taken) (p .g)) && allBelow 32 (fits (p .employer) (p .w) (p .g))
-    && allBelow 32 (fits (p .posted) (p .b) (p .g)) && allBelow 32 (fits (p .«slot_id») (p .b) (p .g))
-    && allBelow 32 (zeroFrom (p .«slot_version») (p .g)) && allBelow 256 (fits (p .states) 2 (p .b))
+    → (countsSound p && allBelow 32 (untakenFrom (p .taken) (p .g))
+    && (allBelow 32 (most (p .employer) (p .w)) && allBelow 32 (zeroFrom (p .employer) (p .g)))
+    && (allBelow 32 (most (p .posted) (p .b)) && allBelow 32 (zeroFrom (p .posted) (p .g)))
+    && (allBelow 32 (most (p .«slot_id») (p .b)) && allBelow 32 (zeroFrom (p .«slot_id») (p .g)))
+    && allBelow 32 (zeroFrom (p .«slot_version») (p .g))
+    && (allBelow 256 (most (p .states) 2) && allBelow 256 (zeroFrom (p .states) (p .b)))
     && allBelow 8 (workerFitsAt (p .w) (p .g) (p .b) (p .workers) (p .sets))) ≡ soundOf p
 unfolding soundOf beyondSound kindsSound idsSound registersSound
 scanned p =
-    rw (fits-two 32 (p .employer) (p .w) (p .g), fits-two 32 (p .posted) (p .b) (p .g), fits-two 32 (p .«slot_id») (p .b) (p .g), states-fit p, workers-four p, guards-beyond p, all-and 32 (most (p .posted) (p .b)) (most (p .«slot_id») (p .b)))
+    rw (states-most p, buffers-beyond p, workers-four p, guards-beyond p, all-and 32 (most (p .posted) (p .b)) (most (p .«slot_id») (p .b)))
     (reordered (countsSound p)
     (allBelow 32 (untakenFrom (p .taken) (p .g)))
     (allBelow 32 (zeroFrom (p .employer) (p .g)))
@@ -96,13 +116,17 @@ scanned p =
     (allBelow 8 (registers p)))
 
 -- the same from what the scans answered
-module _ (p : Pool) {taken employer posted ids versions states workers : Bool}
+module _ (p : Pool) {taken employers employer posts posted ids id versions known free workers : Bool}
     (ht : taken ≡ allBelow 32 (untakenFrom (p .taken) (p .g)))
-    (he : employer ≡ allBelow 32 (fits (p .employer) (p .w) (p .g)))
-    (hp : posted ≡ allBelow 32 (fits (p .posted) (p .b) (p .g)))
-    (hi : ids ≡ allBelow 32 (fits (p .«slot_id») (p .b) (p .g)))
+    (hem : employers ≡ allBelow 32 (most (p .employer) (p .w)))
+    (he : employer ≡ allBelow 32 (zeroFrom (p .employer) (p .g)))
+    (hpm : posts ≡ allBelow 32 (most (p .posted) (p .b)))
+    (hp : posted ≡ allBelow 32 (zeroFrom (p .posted) (p .g)))
+    (him : ids ≡ allBelow 32 (most (p .«slot_id») (p .b)))
+    (hi : id ≡ allBelow 32 (zeroFrom (p .«slot_id») (p .g)))
     (hv : versions ≡ allBelow 32 (zeroFrom (p .«slot_version») (p .g)))
-    (hs : states ≡ allBelow 256 (fits (p .states) 2 (p .b)))
+    (hsm : known ≡ allBelow 256 (most (p .states) 2))
+    (hs : free ≡ allBelow 256 (zeroFrom (p .states) (p .b)))
     (hw : workers ≡ allBelow 8 (workerFitsAt (p .w) (p .g) (p .b) (p .workers) (p .sets))) where
-  pub scanned-by : (countsSound p && taken && employer && posted && ids && versions && states && workers) ≡ soundOf p
-  scanned-by = rw (ht, he, hp, hi, hv, hs, hw) (scanned p)
+  pub scanned-by : (countsSound p && taken && (employers && employer) && (posts && posted) && (ids && id) && versions && (known && free) && workers) ≡ soundOf p
+  scanned-by = rw (ht, hem, he, hpm, hp, him, hi, hv, hsm, hs, hw) (scanned p)

@@ -2,7 +2,7 @@
 use mathlib.Core.Path.{_≡_, refl, sym}
 use mathlib.Core.Bool.{Bool, true, false, _||_, false≢true}
 use mathlib.Core.List.{List, [], _∷_}
-use Prim.Native.Nat.{ℕ, _-_, _<_}
+use Prim.Native.Nat.{ℕ, _-_, _≤_, _<_}
 use native.Mathlib.Omega.{arith}
 use lib.Dec.{eqb, ltb}
 use lib.ListN.{length, getD}
@@ -10,21 +10,18 @@ use borrow.Author.Tests.{eqb-true, eqb-false, ne-eqb, ltb-true, leb-true}
 use Rattle.basics.specs.Among.{among}
 use Rattle.basics.specs.Below.{allBelow, anyBelow}
 use Rattle.basics.proofs.Picks.{when-back}
-use Rattle.basics.proofs.Truth.{or-cases, and-left}
+use Rattle.basics.proofs.Truth.{or-cases, and-left, and-right}
 use Rattle.basics.proofs.All.{all-at}
 use Rattle.basics.proofs.Any.{among-each}
 use Rattle.worker.specs.declared.Worker.{Worker}
 use Rattle.pool.specs.declared.Pool.{Pool}
 use Rattle.pool.specs.declared.WorkerNo.{WorkerNo}
-use Rattle.pool.specs.declared.Verdict.{Verdict}
-use Rattle.pool.specs.declared.Verdict.the-variants.{Fine}
-use Rattle.pool.specs.Answers.{fine, refuse, verdict}
+use Rattle.pool.specs.Answers.{fine, refuse}
 use Rattle.pool.specs.Record.{workerAt}
 use Rattle.pool.specs.Sound.{labels}
 use Rattle.pool.specs.Checks.{workerOf, workerCheck}
 use Rattle.pool.specs.Steps.{standCheck}
 use Rattle.pool.specs.Ready.{Ready, Stands}
-use Rattle.pool.proofs.Told.{fine-by}
 use Rattle.pool.proofs.Parts.{parts, sizes-of, placeIn, InUse, worker-in}
 use Rattle.pool.proofs.Checked.{first-both, never, Named, named}
 
@@ -41,16 +38,10 @@ standing p w h =
     let b = when-back (eqb (workerOf p w .label) 0) fine (refuse 5 0) fine never (a .1) in
     record { worker = named p w (a .0); busy = eqb-false _ _ (b .0) }
 
-pub standing-by : (v : Verdict) (p : Pool) (w : WorkerNo) → verdict v ≡ standCheck p w → v ≡ Fine → Standing p w
-standing-by v p w e q = standing p w (fine-by v e q)
-
 pub stands : (p : Pool) (w : WorkerNo) → standCheck p w ≡ fine → Stands p (w .0 - 1)
 stands p w h =
     let a = standing p w h in
     record { sound = a .worker .sound; k-below = omega arith; busy = a .busy }
-
-pub stands-by : (v : Verdict) (p : Pool) (w : WorkerNo) → verdict v ≡ standCheck p w → v ≡ Fine → Stands p (w .0 - 1)
-stands-by v p w e q = stands p w (fine-by v e q)
 
 -- ---- its entry and registers
 
@@ -66,6 +57,12 @@ pub at-guard : (g l : ℕ) (x : Worker) → placeIn g x ≡ true → x .label �
 at-guard g l x h e short =
     or-cases (ltb (x .i) g) _ h (ltb-true (x .i) g) (λ past.
     absurd (false≢true (rw (e, short) at (and-left (eqb (x .label) 12 || eqb (x .label) 32) (eqb (x .i) g) past))))
+
+-- and nowhere is it more
+pub place-most : (g : ℕ) (x : Worker) → placeIn g x ≡ true → x .i ≤ g
+place-most g x h =
+    or-cases (ltb (x .i) g) _ h (λ t. let l = ltb-true (x .i) g t in omega arith) (λ past.
+    let e = eqb-true (x .i) g (and-right (eqb (x .label) 12 || eqb (x .label) 32) (eqb (x .i) g) past) in omega arith)
 
 pub ready : (p : Pool) (k l : ℕ) → Stands p k → workerAt p k .label ≡ l → (eqb l 12 || eqb l 32) ≡ false → Ready p k
 ready p k l s e short =

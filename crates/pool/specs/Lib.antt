@@ -9,3 +9,4 @@ pub mod Questions
 pub mod Steps
 pub mod Ready
 pub mod Scans
+pub mod Reach

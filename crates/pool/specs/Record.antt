@@ -36,7 +36,7 @@ setAt p k = getD (p .sets) k (record { words = [] })
 
 -- ---- the whole record: built here and nowhere else
 
-abbrev recordOf : ℕ → ℕ → ℕ → ℕ → List Bool → List ℕ → List ℕ → List ℕ → List ℕ → List ℕ → List Worker → List IdSet → Pool
+abbrev pub recordOf : ℕ → ℕ → ℕ → ℕ → List Bool → List ℕ → List ℕ → List ℕ → List ℕ → List ℕ → List Worker → List IdSet → Pool
 recordOf w g b maxg taken employer posted ids versions states workers sets =
     record {
       w = w;

@@ -14,9 +14,9 @@ use Rattle.pool.specs.Sound.{isLabel, zeroWorker, workerIds, registersIn
 abbrev pub zeroFrom : List ℕ → ℕ → ℕ → Bool
 zeroFrom xs count k = ltb k count || eqb (getD xs k 0) 0
 
--- entry k is at most the limit, and 0 beyond the count
-abbrev pub fits : List ℕ → ℕ → ℕ → ℕ → Bool
-fits xs limit count k = leb (getD xs k 0) limit && zeroFrom xs count k
+-- entry k is at most the limit
+abbrev pub most : List ℕ → ℕ → ℕ → Bool
+most xs limit k = leb (getD xs k 0) limit
 
 -- guard k is not taken beyond the count
 abbrev pub untakenFrom : List Bool → ℕ → ℕ → Bool

@@ -1,30 +1,56 @@
 // One advance of a worker: the check, and the line of the label that it stands at.
 ghost use mathlib.Core.Path.{_≡_};
 ghost use Prim.Native.Nat.{_<_};
-ghost use lib.Dec.{eqb};
 ghost use lib.ListN.{length};
-ghost use Rattle.basics.specs.Pick.{when};
-ghost use Rattle.pool.specs.Answers.{told, verdict, afterCheck};
-ghost use Rattle.pool.specs.Record.{workerAt, setAt};
-ghost use Rattle.pool.specs.Steps.{line32, lineOf, handCheck, lineCheck, standCheck, advanceOf, handed, listAfterCheck, listAfter};
-ghost use Rattle.pool.specs.Ready.{Stands};
+ghost use Rattle.pool.specs.Answers.{told, said, afterCheck};
+ghost use Rattle.pool.specs.Record.{setAt};
+ghost use Rattle.pool.specs.Steps.{ends, line32, handCheck, advanceOf, handed, listAfterCheck, listAfter};
 use crate::Answer;
 use crate::Outcome;
 use crate::Pool;
+use crate::Reach;
 use crate::Refusal;
 use crate::Verdict;
 use crate::WorkerNo;
+use crate::checks::worker_verdict;
 use crate::handback::all_leaving;
 use crate::handback::freed;
 use crate::handback::hand;
+use crate::sound::parts_sound;
+use idset::IdSet;
+use worker::Slot;
+use worker::Worker;
+
+// Where guard n stands in the arrays; for a worker that is at no guard, a place that stands for none.
+fn place_of(n: u32) -> usize
+    ensures { λ r. ⌜ (r < 32) × (n < 32 → r ≡ n) ⌝ }
+{
+    if n < 32 { n as usize } else { 0 }
+}
 
 impl Pool {
     // One smallest step of a worker. At label 32 the ids handed back go into the lent list, ascending from its start.
-    pub fn advance(self, w: WorkerNo, out: &mut [u32]) -> Outcome
+    pub fn advance(mut self, w: WorkerNo, out: &mut [u32]) -> Outcome
         ensures outcome { λ r. ⌜ told r ≡ advanceOf self w (now (out .entry)) ⌝ }
         ensures list { λ r. ⌜ now (out .exit) ≡ listAfter self w (now (out .entry)) ⌝ }
     {
-        let check = self.stand_check(w);
+        let workers = self.workers;
+        let sets = self.sets;
+        let sound = parts_sound(
+            self.w,
+            self.g,
+            self.b,
+            self.maxg,
+            &self.taken,
+            &self.employer,
+            &self.posted,
+            &self.slot_id,
+            &self.slot_version,
+            &self.states,
+            workers,
+            sets,
+        );
+        let check = worker_verdict(sound, self.w, w);
         match check {
             Verdict::Fault(refusal, place) => Outcome {
                 answer: Answer::Refused(refusal, place),
@@ -32,56 +58,54 @@ impl Pool {
             },
             Verdict::Fine => {
                 let k = (w.0 - 1) as usize;
-                self.line(k, out)
-            }
-        }
-    }
-
-    // 2, 3, 5.
-    fn stand_check(self, w: WorkerNo) -> Verdict
-        ensures { λ r. ⌜ verdict r ≡ standCheck self w ⌝ }
-    {
-        let check = self.worker_check(w);
-        match check {
-            Verdict::Fault(refusal, place) => Verdict::Fault(refusal, place),
-            Verdict::Fine => {
-                let k = (w.0 - 1) as usize;
                 let me = self.workers[k];
                 if me.label == 0 {
-                    Verdict::Fault(Refusal::WorkerIdle, 0)
-                } else {
-                    Verdict::Fine
+                    return Outcome {
+                        answer: Answer::Refused(Refusal::WorkerIdle, 0),
+                        pool: self,
+                    };
+                }
+                if me.label == 32 {
+                    return self.line32(k, out);
+                }
+                let set = self.sets[k];
+                let i = place_of(me.i);
+                let no = (k + 1) as u32;
+                let taken = self.taken[i];
+                let employer = self.employer[i];
+                let posted = self.posted[i];
+                let slot_id = self.slot_id[i];
+                let slot_version = self.slot_version[i];
+                let reach = Reach {
+                    no: no,
+                    g: self.g,
+                    me: me,
+                    set: set,
+                    maxg: self.maxg,
+                    taken: taken,
+                    employer: employer,
+                    posted: posted,
+                    slot_id: slot_id,
+                    slot_version: slot_version,
+                };
+                let moved = reach.line();
+                let answer = moved.answer;
+                let after = moved.reach;
+                let x = after.me;
+                let s = after.set;
+                self.slot_id[i] = after.slot_id;
+                self.slot_version[i] = after.slot_version;
+                self.posted[i] = after.posted;
+                self.employer[i] = after.employer;
+                self.taken[i] = after.taken;
+                self.maxg = after.maxg;
+                self.sets[k] = s;
+                self.workers[k] = x;
+                Outcome {
+                    answer: answer,
+                    pool: self,
                 }
             }
-        }
-    }
-
-    // The line of the label that worker k stands at.
-    fn line(self, k: usize, out: &mut [u32]) -> Outcome
-        requires { ⌜ Stands self k ⌝ }
-        ensures outcome { λ r. ⌜ told r ≡ afterCheck (lineCheck (workerAt self k .label) k self (length (now (out .entry)))) self (lineOf (workerAt self k .label) k self) ⌝ }
-        ensures list { λ r. ⌜ now (out .exit) ≡ listAfterCheck (lineCheck (workerAt self k .label) k self (length (now (out .entry)))) (now (out .entry)) (when (eqb (workerAt self k .label) 32) (handed (setAt self k) (now (out .entry))) (now (out .entry))) ⌝ }
-    {
-        let me = self.workers[k];
-        let l = me.label;
-        match l {
-            2 => self.line2(k),
-            4 => self.own_line(k),
-            5 => self.line5(k),
-            6 => self.line6(k),
-            7 => self.line7(k),
-            8 => self.ends(k, Answer::Fired),
-            9 => self.line9(k),
-            10 => self.ends(k, Answer::Posted),
-            12 => self.own_line(k),
-            13 => self.own_line_at_guard(k),
-            15 => self.own_line_at_guard(k),
-            18 => self.line18(k),
-            22 => self.own_line_at_guard(k),
-            25 => self.own_line_at_guard(k),
-            28 => self.line28(k),
-            31 => self.own_line(k),
-            _ => self.line32(k, out),
         }
     }
 
@@ -111,5 +135,27 @@ impl Pool {
         let states = freed(set, old);
         self.states = states;
         self.ends(k, Answer::Back(size))
+    }
+
+    // An end: idle, registers 0, set empty.
+    fn ends(mut self, k: usize, answer: Answer) -> Outcome
+        requires { ⌜ k < 8 ⌝ }
+        ensures { λ r. ⌜ told r ≡ ends k (said answer) self ⌝ }
+    {
+        let h = Slot { id: 0, version: 0 };
+        self.workers[k] = Worker {
+            label: 0,
+            i: 0,
+            v: 0,
+            h: h,
+            attempts: 0,
+            max: 0,
+        };
+        let none = IdSet::empty();
+        self.sets[k] = none;
+        Outcome {
+            answer: answer,
+            pool: self,
+        }
     }
 }

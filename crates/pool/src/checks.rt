@@ -1,7 +1,9 @@
 // What is wrong with a call's record and arguments, in the order of the paper's table.
 ghost use mathlib.Core.Path.{_≡_};
-ghost use Rattle.pool.specs.Answers.{verdict};
+ghost use Rattle.basics.specs.Pick.{when, unless};
+ghost use Rattle.pool.specs.Answers.{verdict, fine, refuse};
 ghost use Prim.Native.Nat.{_≤_, _<_};
+ghost use lib.Dec.{ltb};
 ghost use lib.ListN.{length, getD};
 ghost use Rattle.basics.specs.Among.{amongFirst};
 ghost use Rattle.pool.specs.Checks.{workerCheck, beginCheck, guardCheck, idCheck, fireCheck, postCheck, entryCheck, listCheck, giveUpCheck, takeCheck, askCheck};
@@ -11,24 +13,47 @@ use crate::Pool;
 use crate::Refusal;
 use crate::Verdict;
 use crate::WorkerNo;
+use crate::sound::parts_sound;
+
+// 2, 3, from whether the record is sound and how many workers it has.
+pub fn worker_verdict(sound: bool, count: u32, w: WorkerNo) -> Verdict
+    ensures { λ r. ⌜ verdict r ≡ unless sound (refuse 2 0) (when (ltb (w .0) 1) (refuse 3 0) (when (ltb count (w .0)) (refuse 3 0) fine)) ⌝ }
+{
+    if !sound {
+        return Verdict::Fault(Refusal::NotSound, 0);
+    }
+    let no = w.0;
+    if no < 1 {
+        return Verdict::Fault(Refusal::NoSuchWorker, 0);
+    }
+    if count < no {
+        return Verdict::Fault(Refusal::NoSuchWorker, 0);
+    }
+    Verdict::Fine
+}
 
 impl Pool {
     // 2, 3.
     pub(crate) fn worker_check(self, w: WorkerNo) -> Verdict
         ensures { λ r. ⌜ verdict r ≡ workerCheck self w ⌝ }
     {
-        let sound = self.sound();
-        if !sound {
-            return Verdict::Fault(Refusal::NotSound, 0);
-        }
-        let no = w.0;
-        if no < 1 {
-            return Verdict::Fault(Refusal::NoSuchWorker, 0);
-        }
-        if self.w < no {
-            return Verdict::Fault(Refusal::NoSuchWorker, 0);
-        }
-        Verdict::Fine
+        let workers = self.workers;
+        let sets = self.sets;
+        let sound = parts_sound(
+            self.w,
+            self.g,
+            self.b,
+            self.maxg,
+            &self.taken,
+            &self.employer,
+            &self.posted,
+            &self.slot_id,
+            &self.slot_version,
+            &self.states,
+            workers,
+            sets,
+        );
+        worker_verdict(sound, self.w, w)
     }
 
     // 2, 3, 4.

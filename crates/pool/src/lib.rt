@@ -80,6 +80,26 @@ pub struct Outcome {
     pub pool: Pool,
 }
 
+// What one advance of a worker reads and may store, but for the states: its own number, registers and set, G, MAXG, and the guard that it is
+// at.
+struct Reach {
+    no: u32,
+    g: u32,
+    me: Worker,
+    set: IdSet,
+    maxg: u32,
+    taken: bool,
+    employer: u32,
+    posted: u32,
+    slot_id: u32,
+    slot_version: u32,
+}
+
+struct Moved {
+    answer: Answer,
+    reach: Reach,
+}
+
 // What a check of a call's record and arguments found.
 enum Verdict {
     Fine,

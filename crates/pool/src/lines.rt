@@ -1,19 +1,17 @@
-// One advance of a worker, a method for each label. k is the worker's number less 1.
+// One advance of a worker, a method for each label, over what the worker has in reach: the record itself is not copied here. Label 32, which
+// goes over the states, is in `advance`.
 ghost use mathlib.Core.Path.{_≡_};
-ghost use mathlib.Core.Bool.{false};
 ghost use Prim.Native.Nat.{_<_};
 ghost use Rattle.basics.specs.Pick.{when};
-ghost use Rattle.idset.specs.Members.{memberOf};
-ghost use Rattle.worker.specs.Registers.{noSlot};
-ghost use Rattle.worker.specs.Steps.{stepOf};
-ghost use Rattle.pool.specs.Answers.{told, said, afterCheck};
-ghost use Rattle.pool.specs.Record.{workerAt, setAt};
-ghost use Rattle.pool.specs.Steps.{largestVersion, postedHere, slotHere, puts, ends, line2, line5, line6, line7, line9, unchanged, exchange, line18, collects, collect, line28, versionCheck};
-ghost use Rattle.pool.specs.Ready.{Ready};
+ghost use Rattle.idset.specs.Members.{noIds};
+ghost use Rattle.worker.specs.Registers.{largest, noWorker};
+ghost use Rattle.pool.specs.Answers.{afterCheck};
+ghost use Rattle.pool.specs.Steps.{line2, line5, line6, line7, line9, unchanged, line18, collects, line28, versionCheck};
+ghost use Rattle.pool.specs.Reach.{storing, putting, ownStep, Takes, TakesLine};
 use crate::Answer;
 use crate::GuardNo;
-use crate::Outcome;
-use crate::Pool;
+use crate::Moved;
+use crate::Reach;
 use crate::Refusal;
 use idset::IdSet;
 use worker::Slot;
@@ -29,26 +27,70 @@ fn choose(test: bool, yes: u32, no: u32) -> u32
     if test { yes } else { no }
 }
 
-impl Pool {
-    // The worker's label and registers are x from now on.
-    fn puts(mut self, k: usize, x: Worker) -> Outcome
-        requires { ⌜ k < 8 ⌝ }
-        ensures { λ r. ⌜ told r ≡ puts k x self ⌝ }
+impl Reach {
+    // The line of the label that the worker stands at.
+    pub(crate) fn line(self) -> Moved
+        requires { ⌜ self .me .i < largest ⌝ }
+        ensures { λ r. ⌜ TakesLine self r ⌝ }
     {
-        self.workers[k] = x;
-        Outcome {
-            answer: Answer::At(x.label),
-            pool: self,
+        let me = self.me;
+        let label = me.label;
+        match label {
+            2 => self.line2(),
+            4 => self.own_line(),
+            5 => self.line5(),
+            6 => self.line6(),
+            7 => self.line7(),
+            8 => self.ends(Answer::Fired),
+            9 => self.line9(),
+            10 => self.ends(Answer::Posted),
+            12 => self.own_line(),
+            13 => self.own_line(),
+            15 => self.own_line(),
+            18 => self.line18(),
+            22 => self.own_line(),
+            25 => self.own_line(),
+            28 => self.line28(),
+            _ => self.own_line(),
         }
     }
 
+    // This worker and this set from now on.
+    fn stores(self, answer: Answer, me: Worker, set: IdSet) -> Moved
+        ensures { λ r. ⌜ r ≡ storing answer me set self ⌝ }
+    {
+        let reach = Reach {
+            no: self.no,
+            g: self.g,
+            me: me,
+            set: set,
+            maxg: self.maxg,
+            taken: self.taken,
+            employer: self.employer,
+            posted: self.posted,
+            slot_id: self.slot_id,
+            slot_version: self.slot_version,
+        };
+        Moved {
+            answer: answer,
+            reach: reach,
+        }
+    }
+
+    // The worker's label and registers are x from now on.
+    fn puts(self, x: Worker) -> Moved
+        ensures { λ r. ⌜ r ≡ putting x self ⌝ }
+    {
+        let set = self.set;
+        self.stores(Answer::At(x.label), x, set)
+    }
+
     // An end: idle, registers 0, set empty.
-    pub(crate) fn ends(mut self, k: usize, answer: Answer) -> Outcome
-        requires { ⌜ k < 8 ⌝ }
-        ensures { λ r. ⌜ told r ≡ ends k (said answer) self ⌝ }
+    fn ends(self, answer: Answer) -> Moved
+        ensures { λ r. ⌜ r ≡ storing answer noWorker noIds self ⌝ }
     {
         let h = Slot { id: 0, version: 0 };
-        self.workers[k] = Worker {
+        let idle = Worker {
             label: 0,
             i: 0,
             v: 0,
@@ -57,185 +99,131 @@ impl Pool {
             max: 0,
         };
         let none = IdSet::empty();
-        self.sets[k] = none;
-        Outcome {
-            answer: answer,
-            pool: self,
-        }
+        self.stores(answer, idle, none)
     }
 
-    pub(crate) fn line2(mut self, k: usize) -> Outcome
-        requires { ⌜ Ready self k ⌝ }
-        ensures { λ r. ⌜ told r ≡ line2 k self ⌝ }
+    // All is as it was.
+    fn versions_used_up(self) -> Moved
+        ensures { λ r. ⌜ r ≡ storing (Answer.Refused Refusal.VersionsUsedUp 0) (self .me) (self .set) self ⌝ }
     {
-        let mut me = self.workers[k];
-        let i = me.i as usize;
-        if !self.taken[i] {
-            self.taken[i] = true;
+        let me = self.me;
+        let set = self.set;
+        self.stores(Answer::Refused(Refusal::VersionsUsedUp, 0), me, set)
+    }
+
+    fn line2(mut self) -> Moved
+        requires { ⌜ self .me .i < largest ⌝ }
+        ensures { λ r. ⌜ Takes line2 self r ⌝ }
+    {
+        let mut me = self.me;
+        if !self.taken {
+            self.taken = true;
             me.label = 4;
-            return self.puts(k, me);
+            return self.puts(me);
         }
         let next = me.i + 1;
         if next == self.g {
-            return self.ends(k, Answer::NoneFound);
+            return self.ends(Answer::NoneFound);
         }
         me.i = next;
-        self.puts(k, me)
+        self.puts(me)
     }
 
-    pub(crate) fn line5(mut self, k: usize) -> Outcome
-        requires { ⌜ k < 8 ⌝ }
-        ensures { λ r. ⌜ told r ≡ line5 k self ⌝ }
+    fn line5(mut self) -> Moved
+        ensures { λ r. ⌜ Takes line5 self r ⌝ }
     {
-        let mut me = self.workers[k];
+        let mut me = self.me;
         self.maxg = choose(self.maxg == me.max, me.i, self.maxg);
         me.label = 4;
-        self.puts(k, me)
+        self.puts(me)
     }
 
-    pub(crate) fn line6(mut self, k: usize) -> Outcome
-        requires { ⌜ Ready self k ⌝ }
-        ensures { λ r. ⌜ told r ≡ line6 k self ⌝ }
+    fn line6(mut self) -> Moved
+        ensures { λ r. ⌜ Takes line6 self r ⌝ }
     {
-        let me = self.workers[k];
-        let i = me.i as usize;
-        self.employer[i] = (k + 1) as u32;
-        self.ends(k, Answer::Hired(GuardNo(me.i)))
+        let me = self.me;
+        self.employer = self.no;
+        self.ends(Answer::Hired(GuardNo(me.i)))
     }
 
-    pub(crate) fn line7(mut self, k: usize) -> Outcome
-        requires { ⌜ Ready self k ⌝ }
-        ensures { λ r. ⌜ told r ≡ line7 k self ⌝ }
+    fn line7(mut self) -> Moved
+        ensures { λ r. ⌜ Takes line7 self r ⌝ }
     {
-        let mut me = self.workers[k];
-        let i = me.i as usize;
-        self.taken[i] = false;
+        let mut me = self.me;
+        self.taken = false;
         me.label = 8;
-        self.puts(k, me)
+        self.puts(me)
     }
 
-    pub(crate) fn line9(mut self, k: usize) -> Outcome
-        requires { ⌜ Ready self k ⌝ }
-        ensures { λ r. ⌜ told r ≡ line9 k self ⌝ }
+    fn line9(mut self) -> Moved
+        ensures { λ r. ⌜ Takes line9 self r ⌝ }
     {
-        let mut me = self.workers[k];
-        let i = me.i as usize;
-        self.posted[i] = me.v;
+        let mut me = self.me;
+        self.posted = me.v;
         me.label = 10;
-        self.puts(k, me)
+        self.puts(me)
     }
 
-    // Labels 4, 12 and 31: the worker's own step, which reads no guard.
-    pub(crate) fn own_line(self, k: usize) -> Outcome
-        requires { ⌜ k < 8 ⌝ }
-        ensures { λ r. ⌜ told r ≡ puts k (stepOf (workerAt self k) (self .maxg) 0 false noSlot .worker) self ⌝ }
+    // Labels 4, 12, 13, 15, 22, 25 and 31: the worker's own step.
+    fn own_line(self) -> Moved
+        ensures { λ r. ⌜ r ≡ putting (ownStep self) self ⌝ }
     {
-        let me = self.workers[k];
-        let none = Slot { id: 0, version: 0 };
-        let step = advance_alone(me, self.maxg, 0, false, none);
-        let x = step.worker;
-        self.puts(k, x)
-    }
-
-    // Labels 13, 15, 22 and 25: the worker's own step, beside guard i.
-    pub(crate) fn own_line_at_guard(self, k: usize) -> Outcome
-        requires { ⌜ Ready self k ⌝ }
-        ensures { λ r. ⌜ told r ≡ puts k (stepOf (workerAt self k) (self .maxg) (postedHere self k) (memberOf (setAt self k) (postedHere self k)) (slotHere self k) .worker) self ⌝ }
-    {
-        let me = self.workers[k];
-        let i = me.i as usize;
-        let posted = self.posted[i];
+        let me = self.me;
+        let set = self.set;
         let slot = Slot {
-            id: self.slot_id[i],
-            version: self.slot_version[i],
+            id: self.slot_id,
+            version: self.slot_version,
         };
-        let set = self.sets[k];
-        let member = set.has(posted);
-        let step = advance_alone(me, self.maxg, posted, member, slot);
+        let member = set.has(self.posted);
+        let step = advance_alone(me, self.maxg, self.posted, member, slot);
         let x = step.worker;
-        self.puts(k, x)
+        self.puts(x)
     }
 
-    pub(crate) fn line18(self, k: usize) -> Outcome
-        requires { ⌜ Ready self k ⌝ }
-        ensures { λ r. ⌜ told r ≡ afterCheck (versionCheck (unchanged k self) k self) self (line18 k self) ⌝ }
+    fn line18(mut self) -> Moved
+        ensures { λ r. ⌜ Takes (λ k p. afterCheck (versionCheck (unchanged k p) k p) p (line18 k p)) self r ⌝ }
     {
-        let mut me = self.workers[k];
-        let i = me.i as usize;
+        let mut me = self.me;
         let h = me.h;
-        let id = self.slot_id[i];
-        let version = self.slot_version[i];
-        let same = (id == h.id) & (version == h.version);
+        let same = (self.slot_id == h.id) & (self.slot_version == h.version);
         if !same {
             me.label = 22;
-            return self.puts(k, me);
+            return self.puts(me);
         }
-        if version == LARGEST_VERSION {
-            return Outcome {
-                answer: Answer::Refused(Refusal::VersionsUsedUp, 0),
-                pool: self,
-            };
+        if self.slot_version == LARGEST_VERSION {
+            return self.versions_used_up();
         }
-        self.exchange(k)
-    }
-
-    // The slot takes v, and the set what the slot held.
-    fn exchange(mut self, k: usize) -> Outcome
-        requires { ⌜ Ready self k × (slotHere self k .version ≡ largestVersion → ⊥) ⌝ }
-        ensures { λ r. ⌜ told r ≡ exchange k self ⌝ }
-    {
-        let mut me = self.workers[k];
-        let i = me.i as usize;
-        let h = me.h;
-        let version = self.slot_version[i];
-        self.slot_id[i] = me.v;
-        self.slot_version[i] = version + 1;
-        let set = self.sets[k];
+        // The slot takes v, and the set what the slot held.
+        self.slot_id = me.v;
+        self.slot_version = self.slot_version + 1;
+        let set = self.set;
         let less = set.without(me.v);
         let more = less.with(h.id);
-        self.sets[k] = more;
         me.label = 31;
-        self.puts(k, me)
+        self.stores(Answer::At(31), me, more)
     }
 
-    pub(crate) fn line28(self, k: usize) -> Outcome
-        requires { ⌜ Ready self k ⌝ }
-        ensures { λ r. ⌜ told r ≡ afterCheck (versionCheck (collects k self) k self) self (line28 k self) ⌝ }
+    fn line28(mut self) -> Moved
+        ensures { λ r. ⌜ Takes (λ k p. afterCheck (versionCheck (collects k p) k p) p (line28 k p)) self r ⌝ }
     {
-        let mut me = self.workers[k];
-        let i = me.i as usize;
+        let mut me = self.me;
         let h = me.h;
-        let id = self.slot_id[i];
-        let version = self.slot_version[i];
-        let collects = (h.id != 0) & (h.id != me.v) & ((id == h.id) & (version == h.version));
+        let collects = (h.id != 0)
+            & (h.id != me.v)
+            & ((self.slot_id == h.id) & (self.slot_version == h.version));
         if !collects {
             me.label = 31;
-            return self.puts(k, me);
+            return self.puts(me);
         }
-        if version == LARGEST_VERSION {
-            return Outcome {
-                answer: Answer::Refused(Refusal::VersionsUsedUp, 0),
-                pool: self,
-            };
+        if self.slot_version == LARGEST_VERSION {
+            return self.versions_used_up();
         }
-        self.collect(k)
-    }
-
-    // The slot is emptied, and the set takes what it held.
-    fn collect(mut self, k: usize) -> Outcome
-        requires { ⌜ Ready self k × (slotHere self k .version ≡ largestVersion → ⊥) ⌝ }
-        ensures { λ r. ⌜ told r ≡ collect k self ⌝ }
-    {
-        let mut me = self.workers[k];
-        let i = me.i as usize;
-        let h = me.h;
-        let version = self.slot_version[i];
-        self.slot_id[i] = 0;
-        self.slot_version[i] = version + 1;
-        let set = self.sets[k];
+        // The slot is emptied, and the set takes what it held.
+        self.slot_id = 0;
+        self.slot_version = self.slot_version + 1;
+        let set = self.set;
         let more = set.with(h.id);
-        self.sets[k] = more;
         me.label = 31;
-        self.puts(k, me)
+        self.stores(Answer::At(31), me, more)
     }
 }

@@ -3,8 +3,9 @@
 ghost use mathlib.Core.Path.{_≡_};
 ghost use lib.Dec.{leb};
 ghost use Rattle.basics.specs.Below.{allBelow};
+ghost use Rattle.pool.specs.Record.{recordOf};
 ghost use Rattle.pool.specs.Sound.{isLabel, soundOf};
-ghost use Rattle.pool.specs.Scans.{zeroFrom, fits, untakenFrom, workerFits, workerFitsAt};
+ghost use Rattle.pool.specs.Scans.{most, zeroFrom, untakenFrom, workerFits, workerFitsAt};
 use crate::Pool;
 use idset::IdSet;
 use worker::Worker;
@@ -18,26 +19,27 @@ fn is_label(l: u32) -> bool
     (l < 64) & ((LABELS >> (l % 64)) % 2 == 1)
 }
 
-// Every entry is at most the limit, and 0 from the count on.
-fn fit(xs: &[u32; 32], limit: u32, count: u32) -> bool
-    ensures { λ r. ⌜ r ≡ allBelow 32 (fits (now (xs .entry)) limit count) ⌝ }
+// Every entry is at most the limit.
+fn at_most(xs: &[u32; 32], limit: u32) -> bool
+    ensures { λ r. ⌜ r ≡ allBelow 32 (most (now (xs .entry)) limit) ⌝ }
 {
-    let n = count as usize;
     let mut ok = true;
     for k in 0..32usize {
-        ok = ok & ((xs[k] <= limit) & ((k < n) | (xs[k] == 0)));
+        ok = ok & (xs[k] <= limit);
     }
     ok
 }
 
-// The versions: 0 from the count on.
+// Every entry is 0 from the count on.
 fn zero_from(xs: &[u32; 32], count: u32) -> bool
     ensures { λ r. ⌜ r ≡ allBelow 32 (zeroFrom (now (xs .entry)) count) ⌝ }
 {
-    let n = count as usize;
+    if 32 <= count {
+        return true;
+    }
     let mut ok = true;
-    for k in 0..32usize {
-        ok = ok & ((k < n) | (xs[k] == 0));
+    for k in (count as usize)..32usize {
+        ok = ok & (xs[k] == 0);
     }
     ok
 }
@@ -45,22 +47,37 @@ fn zero_from(xs: &[u32; 32], count: u32) -> bool
 fn untaken_from(xs: &[bool; 32], count: u32) -> bool
     ensures { λ r. ⌜ r ≡ allBelow 32 (untakenFrom (now (xs .entry)) count) ⌝ }
 {
-    let n = count as usize;
+    if 32 <= count {
+        return true;
+    }
     let mut ok = true;
-    for k in 0..32usize {
-        ok = ok & ((k < n) | !xs[k]);
+    for k in (count as usize)..32usize {
+        ok = ok & !xs[k];
     }
     ok
 }
 
-// The states: at most 2, and 0 from the count on.
-fn states_fit(xs: &[u8; 256], count: u32) -> bool
-    ensures { λ r. ⌜ r ≡ allBelow 256 (fits (now (xs .entry)) 2 count) ⌝ }
+// The states: at most 2.
+fn states_known(xs: &[u8; 256]) -> bool
+    ensures { λ r. ⌜ r ≡ allBelow 256 (most (now (xs .entry)) 2) ⌝ }
 {
-    let n = count as usize;
     let mut ok = true;
     for k in 0..256usize {
-        ok = ok & ((xs[k] <= 2) & ((k < n) | (xs[k] == 0)));
+        ok = ok & (xs[k] <= 2);
+    }
+    ok
+}
+
+// The states: free from the count on.
+fn free_from(xs: &[u8; 256], count: u32) -> bool
+    ensures { λ r. ⌜ r ≡ allBelow 256 (zeroFrom (now (xs .entry)) count) ⌝ }
+{
+    if 256 <= count {
+        return true;
+    }
+    let mut ok = true;
+    for k in (count as usize)..256usize {
+        ok = ok & (xs[k] == 0);
     }
     ok
 }
@@ -102,30 +119,54 @@ fn workers_fit(xs: [Worker; 8], ss: [IdSet; 8], w: u32, g: u32, b: u32) -> bool
     ok
 }
 
+// The whole test, from the record's parts, so that a call lends them and copies no record for it.
+pub(crate) fn parts_sound<'a>(
+    w: u32,
+    g: u32,
+    b: u32,
+    maxg: u32,
+    taken: &'a [bool; 32],
+    employer: &'a [u32; 32],
+    posted: &'a [u32; 32],
+    slot_id: &'a [u32; 32],
+    slot_version: &'a [u32; 32],
+    states: &'a [u8; 256],
+    workers: [Worker; 8],
+    sets: [IdSet; 8],
+) -> bool
+    ensures { λ r. ⌜ r ≡ soundOf (recordOf w g b maxg (now (taken .entry)) (now (employer .entry)) (now (posted .entry)) (now («slot_id» .entry)) (now («slot_version» .entry)) (now (states .entry)) workers sets) ⌝ }
+{
+    let counts = (1 <= w) & (w <= 8) & (1 <= g) & (g <= 32) & (1 <= b) & (b <= 256) & (maxg < g);
+    let guards = untaken_from(taken, g);
+    let employers = at_most(employer, w) & zero_from(employer, g);
+    let posts = at_most(posted, b) & zero_from(posted, g);
+    let ids = at_most(slot_id, b) & zero_from(slot_id, g);
+    let versions = zero_from(slot_version, g);
+    let buffers = states_known(states) & free_from(states, b);
+    let entries = workers_fit(workers, sets, w, g, b);
+    counts & guards & employers & posts & ids & versions & buffers & entries
+}
+
 impl Pool {
     // For any record whatever.
     pub fn sound(self) -> bool
         ensures { λ r. ⌜ r ≡ soundOf self ⌝ }
     {
-        let w = self.w;
-        let g = self.g;
-        let b = self.b;
-        let counts = (1 <= w)
-            & (w <= 8)
-            & (1 <= g)
-            & (g <= 32)
-            & (1 <= b)
-            & (b <= 256)
-            & (self.maxg < g);
-        let taken = untaken_from(&self.taken, g);
-        let employer = fit(&self.employer, w, g);
-        let posted = fit(&self.posted, b, g);
-        let slot_id = fit(&self.slot_id, b, g);
-        let slot_version = zero_from(&self.slot_version, g);
-        let states = states_fit(&self.states, b);
-        let xs = self.workers;
-        let ss = self.sets;
-        let workers = workers_fit(xs, ss, w, g, b);
-        counts & taken & employer & posted & slot_id & slot_version & states & workers
+        let workers = self.workers;
+        let sets = self.sets;
+        parts_sound(
+            self.w,
+            self.g,
+            self.b,
+            self.maxg,
+            &self.taken,
+            &self.employer,
+            &self.posted,
+            &self.slot_id,
+            &self.slot_version,
+            &self.states,
+            workers,
+            sets,
+        )
     }
 }

@@ -21,9 +21,8 @@ use Rattle.worker.specs.Registers.{noWorker}
 use Rattle.pool.specs.declared.Pool.{Pool}
 use Rattle.pool.specs.Record.{employerAt, postedAt, slotAt, stateOf, workerAt, setAt, withMaxg, withTaken, withEmployer, withPosted, withSlot, withStates, withState, withWorker, withSet}
 use Rattle.pool.specs.Sound.{inRange, countsSound, guardsBeyond, buffersBeyond, workersBeyond, zeroGuard, zeroWorker, isLabel, guardIds, workerIds, registersIn}
-use Rattle.pool.specs.Scans.{fits}
 use Rattle.pool.proofs.Parts.{Parts, whole, sizes-of, worker-in}
-use Rattle.pool.proofs.Scans.{entry, states-fit}
+use Rattle.pool.proofs.Scans.{fits, entry, states-fit}
 
 -- what is asked of the guards, the buffers and the workers: of those that a change leaves, the same statement after it
 abbrev Guards : Pool → Type 0
@@ -120,13 +119,13 @@ module _ {p : Pool} (s : Parts p) where
 
   -- ---- buffers
 
-  pub states-kept : (l : List ℕ) → allBelow 256 (fits l 2 (p .b)) ≡ true → Parts (withStates l p)
+  pub states-kept : (l : List ℕ) → allBelow 256 (fits l (p .b)) ≡ true → Parts (withStates l p)
   states-kept l h =
       let q = withStates l p in
       made-up (s .counts) guards
       (each (allBelow 256 (λ k. leb (stateOf q (suc k)) 2)) (allBelow 256 (buffersBeyond q) ∷ []) (sym (states-fit q) ∙ h)) workers
 
-  states-fitted : allBelow 256 (fits (p .states) 2 (p .b)) ≡ true
+  states-fitted : allBelow 256 (fits (p .states) (p .b)) ≡ true
   states-fitted = states-fit p ∙ ap₂ _&&_ (s .states) (s .buffers-beyond)
 
   pub state-kept : (id x : ℕ) → 1 ≤ id → id ≤ p .b → x ≤ 2 → Parts (withState id x p)
@@ -140,7 +139,7 @@ module _ {p : Pool} (s : Parts p) where
       → Parts (withStates (table 256 (λ k. when (test (suc k)) x (stateOf p (suc k)))) p)
   unfolding when
   some-states-kept test x most h =
-      states-kept (table 256 new) (all-of 256 (fits (table 256 new) 2 (p .b)) (λ k l. rw (table-at 256 new k 0 l) (go k l (test (suc k)) refl)))
+      states-kept (table 256 new) (all-of 256 (fits (table 256 new) (p .b)) (λ k l. rw (table-at 256 new k 0 l) (go k l (test (suc k)) refl)))
     where
       new : ℕ → ℕ
       new k = when (test (suc k)) x (stateOf p (suc k))
@@ -148,7 +147,7 @@ module _ {p : Pool} (s : Parts p) where
       go : (k : ℕ) → k < 256 → (t : Bool) → test (suc k) ≡ t
           → (leb (when t x (stateOf p (suc k))) 2 && (ltb k (p .b) || eqb (when t x (stateOf p (suc k))) 0)) ≡ true
       go k l true e = rw (le-leb x 2 h, lt-ltb k (p .b) (most (suc k) e))
-      go k l false e = rw (← entry p k) (all-at 256 (fits (p .states) 2 (p .b)) states-fitted k l)
+      go k l false e = rw (← entry p k) (all-at 256 (fits (p .states) (p .b)) states-fitted k l)
 
   -- ---- workers
 

@@ -1,28 +1,23 @@
--- `pool::Pool::worker_check` meets its contract. Assumes nothing.
-use Rattle.pool.specs.Checks.{workerCheck}
-use Rattle.pool.proofs.Told.{checks}
+use Rattle.pool.proofs.Dispatch.{judged}
 use borrow.Author.Needs.{needs}
 use Rattle.pool.proofs.Pool.worker_check.Statement.{statement}
 use Rattle.pool.proofs.Pool.worker_check.Tie as tie
+use Rattle.pool.proofs.Pool.worker_check.Reads as reads
+use Rattle.pool.proofs.Pool.worker_check.Lts as lts
+use Rattle.pool.proofs.checks.worker_verdict.Reads as worker-verdict-reads
+use Rattle.pool.proofs.sound.parts_sound.Reads as parts-sound-reads
 
-sound-requires : tie.Need-sound-requires
-sound-requires c κs = search needs
+-- src/checks.rt:42:13
+parts-sound-requires : tie.Need-parts-sound-requires
+parts-sound-requires c κs = search needs
 
+-- src/checks.rt:56:9
+worker-verdict-requires : tie.Need-worker-verdict-requires
+worker-verdict-requires c κs = search needs
+
+-- src/checks.rt:37:5
 returns : tie.Need-returns
-unfolding workerCheck
-returns c = search checks depth 12
-
-returns-2 : tie.Need-returns-2
-unfolding workerCheck
-returns-2 c = search checks depth 12
-
-returns-3 : tie.Need-returns-3
-unfolding workerCheck
-returns-3 c = search checks depth 12
-
-returns-4 : tie.Need-returns-4
-unfolding workerCheck
-returns-4 c = search checks depth 12
+returns c = search judged
 
 pub worker-check-spec : {M : Type 1} → statement M
-worker-check-spec = tie.close (tie.spec sound-requires returns returns-2 returns-3 returns-4)
+worker-check-spec = tie.close (tie.spec parts-sound-requires worker-verdict-requires returns)

@@ -1,27 +1,24 @@
--- `pool::sound::states_fit` meets its contract. Assumes nothing.
+-- `pool::sound::states_known` meets its contract. Assumes nothing.
 use borrow.Author.Needs.{needs}
 use Prim.Native.Nat.{_≤_, _-_}
 use mathlib.Core.Path.{_≡_}
 use Rattle.basics.specs.Below.{allBelow}
 use Rattle.basics.proofs.All.{scans, all-done}
-use Rattle.pool.specs.Scans.{fits}
-use Rattle.pool.proofs.sound.states_fit.Statement.{statement}
-use Rattle.pool.proofs.sound.states_fit.Tie as tie
+use Rattle.pool.specs.Scans.{most}
+use Rattle.pool.proofs.sound.states_known.Statement.{statement}
+use Rattle.pool.proofs.sound.states_known.Tie as tie
 
 abbrev Inv-loop : tie.InvT-loop
-Inv-loop xs count n ok₀ k₀ ok k = (k ≤ 256) × (ok ≡ allBelow k (fits xs 2 count))
+Inv-loop xs ok₀ k₀ ok k = (k ≤ 256) × (ok ≡ allBelow k (most xs 2))
 
 abbrev μ-loop : tie.MeasureT-loop
-μ-loop xs count n ok₀ k₀ ok k = 256 - k
+μ-loop xs ok₀ k₀ ok k = 256 - k
 
 loop-holds : tie.Need-loop-holds Inv-loop μ-loop
 loop-holds c = search (needs, scans)
 
 element-copy-out-ok : tie.Need-element-copy-out-ok Inv-loop μ-loop
 element-copy-out-ok c = search needs
-
-element-copy-out-ok-2 : tie.Need-element-copy-out-ok-2 Inv-loop μ-loop
-element-copy-out-ok-2 c = search needs
 
 add-k : tie.Need-add-k Inv-loop μ-loop
 add-k c = search needs
@@ -35,16 +32,7 @@ loop-again c = search (needs, scans)
 returns : tie.Need-returns Inv-loop μ-loop
 returns c = all-done _ (c .before .loop .inv .1) (search needs)
 
-pub states-fit-spec : {M : Type 1} → statement M
-states-fit-spec =
+pub states-known-spec : {M : Type 1} → statement M
+states-known-spec =
     tie.close
-    (tie.spec
-    Inv-loop
-    μ-loop
-    loop-holds
-    element-copy-out-ok
-    element-copy-out-ok-2
-    add-k
-    loop-less
-    loop-again
-    returns)
+    (tie.spec Inv-loop μ-loop loop-holds element-copy-out-ok add-k loop-less loop-again returns)

@@ -1,18 +1,18 @@
--- `pool::sound::fit` meets its contract. Assumes nothing.
+-- `pool::sound::at_most` meets its contract. Assumes nothing.
 use borrow.Author.Needs.{needs}
 use Prim.Native.Nat.{_≤_, _-_}
 use mathlib.Core.Path.{_≡_}
 use Rattle.basics.specs.Below.{allBelow}
 use Rattle.basics.proofs.All.{scans, all-done}
-use Rattle.pool.specs.Scans.{fits}
-use Rattle.pool.proofs.sound.fit.Statement.{statement}
-use Rattle.pool.proofs.sound.fit.Tie as tie
+use Rattle.pool.specs.Scans.{most}
+use Rattle.pool.proofs.sound.at_most.Statement.{statement}
+use Rattle.pool.proofs.sound.at_most.Tie as tie
 
 abbrev Inv-loop : tie.InvT-loop
-Inv-loop xs limit count n ok₀ k₀ ok k = (k ≤ 32) × (ok ≡ allBelow k (fits xs limit count))
+Inv-loop xs limit ok₀ k₀ ok k = (k ≤ 32) × (ok ≡ allBelow k (most xs limit))
 
 abbrev μ-loop : tie.MeasureT-loop
-μ-loop xs limit count n ok₀ k₀ ok k = 32 - k
+μ-loop xs limit ok₀ k₀ ok k = 32 - k
 
 loop-holds : tie.Need-loop-holds Inv-loop μ-loop
 loop-holds c = search (needs, scans)
@@ -22,12 +22,6 @@ mul-ok c = search needs
 
 element-copy-out-ok : tie.Need-element-copy-out-ok Inv-loop μ-loop
 element-copy-out-ok c = search needs
-
-mul-ok-2 : tie.Need-mul-ok-2 Inv-loop μ-loop
-mul-ok-2 c = search needs
-
-element-copy-out-ok-2 : tie.Need-element-copy-out-ok-2 Inv-loop μ-loop
-element-copy-out-ok-2 c = search needs
 
 add-k : tie.Need-add-k Inv-loop μ-loop
 add-k c = search needs
@@ -41,8 +35,8 @@ loop-again c = search (needs, scans)
 returns : tie.Need-returns Inv-loop μ-loop
 returns c = all-done _ (c .before .loop .inv .1) (search needs)
 
-pub fit-spec : {M : Type 1} → statement M
-fit-spec =
+pub at-most-spec : {M : Type 1} → statement M
+at-most-spec =
     tie.close
     (tie.spec
     Inv-loop
@@ -50,8 +44,6 @@ fit-spec =
     loop-holds
     mul-ok
     element-copy-out-ok
-    mul-ok-2
-    element-copy-out-ok-2
     add-k
     loop-less
     loop-again

@@ -1,0 +1,42 @@
+-- `pool::Reach::line28` meets its contract. Assumes nothing.
+use borrow.Author.Needs.{needs}
+use Rattle.pool.proofs.Reach.line28.Statement.{statement}
+use Rattle.pool.proofs.Reached.{take28-passes, take28-used, take28-collects}
+use Rattle.pool.proofs.Reach.line28.Tie as tie
+
+puts-requires : tie.Need-puts-requires
+puts-requires c κs = search needs
+
+returns : tie.Need-returns
+returns c = search take28-passes
+
+versions-used-up-requires : tie.Need-versions-used-up-requires
+versions-used-up-requires c κs = search needs
+
+returns-2 : tie.Need-returns-2
+returns-2 c = search take28-used
+
+add-self : tie.Need-add-self
+add-self c = search needs
+
+with-requires : tie.Need-with-requires
+with-requires c κs = search needs
+
+stores-requires : tie.Need-stores-requires
+stores-requires c κs = search needs
+
+returns-3 : tie.Need-returns-3
+returns-3 c = take28-collects (search (c .before .before .before .before .if2 .left)) (rw (c .before .with .ensures) at (c .stores .ensures))
+
+pub line28-spec : {M : Type 1} → statement M
+line28-spec =
+    tie.close
+    (tie.spec
+    puts-requires
+    returns
+    versions-used-up-requires
+    returns-2
+    add-self
+    with-requires
+    stores-requires
+    returns-3)
