@@ -24,69 +24,90 @@ static uint32_t set_size(const struct id_set *s) {
     return size;
 }
 
-// The marks of word k that stand above id `limit`.
-static uint64_t marks_above(const struct id_set *s, size_t k, uint32_t limit) {
-    uint32_t base = (uint32_t)k * 64;
-    if (limit <= base) return s->words[k];
-    return limit - base >= 64 ? 0 : s->words[k] >> (limit - base);
-}
+// ---- soundness: every scan asks each entry and leaves none early, so that it runs as vector code; what is beyond a count is a scan of its own
 
-static bool set_within(const struct id_set *s, uint32_t limit) {
-    uint64_t above = 0;
-    for (size_t k = 0; k < BUFFERS / 64; k++) above |= marks_above(s, k, limit);
+static bool fit(const uint32_t xs[GUARDS], uint32_t limit) {
+    uint32_t above = 0;
+    for (size_t k = 0; k < GUARDS; k++) above |= xs[k] > limit;
     return above == 0;
 }
 
-// ---- soundness: every scan asks each entry and leaves none early, so that it runs as vector code
-
-static bool fit(const uint32_t xs[GUARDS], uint32_t limit, uint32_t count) {
-    bool ok = true;
-    for (uint32_t k = 0; k < GUARDS; k++) ok &= (xs[k] <= limit) & ((k < count) | (xs[k] == 0));
-    return ok;
+static bool zero_from(const uint32_t xs[GUARDS], size_t count) {
+    uint32_t beyond = 0;
+    for (size_t k = count; k < GUARDS; k++) beyond |= xs[k];
+    return beyond == 0;
 }
 
-static bool zero_from(const uint32_t xs[GUARDS], uint32_t count) {
-    bool ok = true;
-    for (uint32_t k = 0; k < GUARDS; k++) ok &= (k < count) | (xs[k] == 0);
-    return ok;
+static bool untaken_from(const bool xs[GUARDS], size_t count) {
+    uint8_t beyond = 0;
+    for (size_t k = count; k < GUARDS; k++) beyond |= xs[k];
+    return beyond == 0;
 }
 
-static bool untaken_from(const bool xs[GUARDS], uint32_t count) {
-    bool ok = true;
-    for (uint32_t k = 0; k < GUARDS; k++) ok &= (k < count) | !xs[k];
-    return ok;
+static bool states_fit(const uint8_t xs[BUFFERS], size_t count) {
+    uint8_t above = 0, beyond = 0;
+    for (size_t k = 0; k < BUFFERS; k++) above |= xs[k] > LEAVING;
+    for (size_t k = count; k < BUFFERS; k++) beyond |= xs[k];
+    return (above | beyond) == 0;
 }
 
-static bool states_fit(const uint8_t xs[BUFFERS], uint32_t count) {
-    bool ok = true;
-    for (uint32_t k = 0; k < BUFFERS; k++) ok &= (xs[k] <= LEAVING) & ((k < count) | (xs[k] == FREE));
-    return ok;
+// The marks of the ids above the limit.
+static struct id_set above(uint32_t limit) {
+    struct id_set marks;
+    for (uint32_t k = 0; k < BUFFERS / 64; k++) {
+        uint32_t base = k * 64;
+        marks.words[k] = limit <= base ? UINT64_MAX : limit - base < 64 ? UINT64_MAX << (limit - base) : 0;
+    }
+    return marks;
+}
+
+// The marks that two sets share, of all words in one.
+static uint64_t shared(const struct id_set *s, const struct id_set *t) {
+    uint64_t marks = 0;
+    for (size_t k = 0; k < BUFFERS / 64; k++) marks |= s->words[k] & t->words[k];
+    return marks;
 }
 
 // Bit l is set exactly for a label l.
 static const uint64_t labels = 0x19244b7f5;
 
-static bool worker_fits(const struct worker *x, const struct id_set *s, bool used, uint32_t g, uint32_t b) {
+static bool worker_fits(const struct worker *x, uint32_t g, uint32_t b) {
     uint32_t l = x->label;
-    bool idle = (l | x->i | x->v | x->h.id | x->h.version | x->attempts | x->max) == 0;
     bool known = (l < 64) & (labels >> (l % 64) & 1);
-    bool ids = (x->v <= b) & (x->h.id <= b) & set_within(s, b);
     bool at_end = ((l == 12) | (l == 32)) & (x->i == g);
     bool trying = (l == 15) | (l == 18) | (l == 22) | (l == 25);
-    bool registers = ((x->i < g) | at_end) & (x->max < g) & (x->attempts <= 3) & ((x->attempts <= 2) | !trying);
-    return (used | (idle & set_within(s, 0))) & known & ids & registers;
+    uint32_t most = trying ? 2 : 3;
+    return known & (x->v <= b) & (x->h.id <= b) & ((x->i < g) | at_end) & (x->max < g) & (x->attempts <= most);
+}
+
+static bool idle(const struct worker *x) { return (x->label | x->i | x->v | x->h.id | x->h.version | x->attempts | x->max) == 0; }
+
+static bool workers_fit(const struct pool *p) {
+    const struct id_set every = above(0), beyond = above(p->b);
+    bool ok = true;
+    for (uint32_t k = 0; k < WORKERS; k++) {
+        const struct worker *x = &p->workers[k];
+        bool unused = idle(x), empty = shared(&p->sets[k], &every) == 0;
+        ok &= worker_fits(x, p->g, p->b);
+        ok &= shared(&p->sets[k], &beyond) == 0;
+        ok &= (k < p->w) | (unused & empty);
+    }
+    return ok;
 }
 
 static bool sound(const struct pool *p) {
     uint32_t w = p->w, g = p->g, b = p->b;
     bool ok = (1 <= w) & (w <= WORKERS) & (1 <= g) & (g <= GUARDS) & (1 <= b) & (b <= BUFFERS) & (p->maxg < g);
+    ok &= fit(p->employer, w);
+    ok &= fit(p->posted, b);
+    ok &= fit(p->slot_id, b);
     ok &= untaken_from(p->taken, g);
-    ok &= fit(p->employer, w, g);
-    ok &= fit(p->posted, b, g);
-    ok &= fit(p->slot_id, b, g);
+    ok &= zero_from(p->employer, g);
+    ok &= zero_from(p->posted, g);
+    ok &= zero_from(p->slot_id, g);
     ok &= zero_from(p->slot_version, g);
     ok &= states_fit(p->states, b);
-    for (uint32_t k = 0; k < WORKERS; k++) ok &= worker_fits(&p->workers[k], &p->sets[k], k < w, g, b);
+    ok &= workers_fit(p);
     return ok;
 }
 

@@ -92,7 +92,7 @@ int main(void) {
         {"take 1, give it up, 7 advances", 1 + 8, TWO(give_up), .a = 1},
         {"take 16, give them up, 7 advances", 16 + 8, TWO(give_up), .a = 16},
         {"take 200, give them up, 7 advances", 200 + 8, TWO(give_up), .a = 200},
-        {"contention, 8 workers; 9 calls in 10 are advances", 837, ONE(contention)},
+        {"contention, 8 workers; 97 calls in 100 are advances", 709, ONE(contention)},
         {"refused hire, the damage in the last worker", 1, ONE(refused)},
     };
     const struct row guards[] = {
@@ -112,9 +112,9 @@ int main(void) {
     };
     heading("what a call costs, W = 8, G = 32, B = 256");
     for (size_t k = 0; k < sizeof calls / sizeof *calls; k++) measure(&calls[k]);
-    heading("an advance of an empty give-up, B = 256");
+    heading("a give-up of nothing with its advances, B = 256");
     for (size_t k = 0; k < sizeof guards / sizeof *guards; k++) measure(&guards[k]);
-    heading("an advance of an empty give-up, G = 32");
+    heading("a give-up of nothing with its advances, G = 32");
     for (size_t k = 0; k < sizeof buffers / sizeof *buffers; k++) measure(&buffers[k]);
     heading("the advance at label 32, by the size of the set");
     for (size_t k = 0; k < sizeof sets / sizeof *sets; k++) measure(&sets[k]);

@@ -6,7 +6,7 @@
 
 // ---- checksums
 
-static uint64_t with(uint64_t sum, uint64_t number) { return (sum << 5) ^ (sum >> 59) ^ number; }
+static uint64_t with(uint64_t sum, uint64_t number) { return sum * 33 + number; }
 
 static uint64_t with_answer(uint64_t sum, struct answer answer) {
     switch (answer.said) {
@@ -54,10 +54,6 @@ static void make_staffed(struct pool *p, uint32_t g, uint32_t b) {
     }
 }
 
-static void number_ids(uint32_t ids[BUFFERS]) {
-    for (uint32_t j = 0; j < BUFFERS; j++) ids[j] = j + 1;
-}
-
 uint64_t baseline_hire_fire(uint64_t times) {
     struct pool p;
     pool_make(&p, 8, 32, 256);
@@ -83,32 +79,44 @@ uint64_t baseline_post(uint64_t times) {
     return with_record(sum, &p);
 }
 
-uint64_t baseline_give_up(uint64_t times, size_t count) {
-    struct pool p;
+// Each buffer taken, one give-up of them all, and so many advances.
+static uint64_t give_up(struct pool *p, uint64_t times, size_t count, uint32_t advances, size_t length) {
     uint32_t ids[BUFFERS], list[BUFFERS] = {0};
-    number_ids(ids);
-    pool_make(&p, 8, 32, 256);
+    for (uint32_t j = 0; j < BUFFERS; j++) ids[j] = j + 1;
     uint64_t sum = 0;
     for (uint64_t k = 0; k < times; k++) {
-        for (size_t j = 0; j < count; j++) sum = with_answer(sum, pool_take(&p, ids[j]));
-        sum = with_answer(sum, pool_give_up(&p, 1, ids, count));
-        for (int n = 0; n < 7; n++) sum = with_answer(sum, pool_advance(&p, 1, list, BUFFERS));
+        for (size_t j = 0; j < count; j++) sum = with_answer(sum, pool_take(p, ids[j]));
+        sum = with_answer(sum, pool_give_up(p, 1, ids, count));
+        for (uint32_t n = 0; n < advances; n++) sum = with_answer(sum, pool_advance(p, 1, list, length));
     }
-    return with_list(with_record(sum, &p), list, BUFFERS);
+    return with_list(with_record(sum, p), list, length);
+}
+
+uint64_t baseline_give_up(uint64_t times, size_t count) {
+    struct pool p;
+    pool_make(&p, 8, 32, 256);
+    return give_up(&p, times, count, 7, BUFFERS);
+}
+
+uint64_t baseline_scan(uint64_t times, uint32_t g, uint32_t b) {
+    struct pool p;
+    make_staffed(&p, g, b);
+    return give_up(&p, times, 0, 5 * g + 2, 1);
 }
 
 uint64_t baseline_hand_back(uint64_t times, size_t count) {
     struct pool p;
-    uint32_t ids[BUFFERS], list[BUFFERS] = {0};
-    number_ids(ids);
     pool_make(&p, 8, 32, 256);
-    for (size_t j = 0; j < count; j++) pool_take(&p, ids[j]);
-    pool_give_up(&p, 1, ids, count);
+    for (uint32_t j = 0; j < count; j++) {
+        p.states[j] = LEAVING;
+        p.sets[0].words[j / 64] |= (uint64_t)1 << j % 64;
+    }
     p.workers[0].label = 32;
     const struct worker me = p.workers[0];
     const struct id_set set = p.sets[0];
     uint8_t states[BUFFERS];
     memcpy(states, p.states, sizeof states);
+    uint32_t list[BUFFERS] = {0};
     uint64_t sum = 0;
     for (uint64_t k = 0; k < times; k++) {
         sum = with_answer(sum, pool_advance(&p, 1, list, BUFFERS));
@@ -117,18 +125,6 @@ uint64_t baseline_hand_back(uint64_t times, size_t count) {
         memcpy(p.states, states, sizeof states);
     }
     return with_list(with_record(sum, &p), list, BUFFERS);
-}
-
-uint64_t baseline_scan(uint64_t times, uint32_t g, uint32_t b) {
-    struct pool p;
-    make_staffed(&p, g, b);
-    uint32_t advances = 5 * g + 2;
-    uint64_t sum = 0;
-    for (uint64_t k = 0; k < times; k++) {
-        sum = with_answer(sum, pool_give_up(&p, 1, NULL, 0));
-        for (uint32_t n = 0; n < advances; n++) sum = with_answer(sum, pool_advance(&p, 1, NULL, 0));
-    }
-    return with_record(sum, &p);
 }
 
 uint64_t baseline_refused(uint64_t times) {
@@ -148,16 +144,14 @@ uint64_t baseline_contention(uint64_t times) {
     make_staffed(&p, 32, 256);
     uint64_t sum = 0;
     for (uint64_t round = 0; round < times; round++) {
-        uint32_t from = 1 + 32 * (uint32_t)(round % 2);
+        uint32_t before = round % 2 * 32;
         for (uint32_t i = 0; i < 32; i++) {
-            uint32_t owner = 5 + i / 8;
-            sum = with_answer(sum, pool_take(&p, from + i));
-            sum = with_answer(sum, pool_post(&p, owner, i, from + i));
-            for (int n = 0; n < 2; n++) sum = with_answer(sum, pool_advance(&p, owner, list, BUFFERS));
+            p.states[before + i] = IN_SERVICE;
+            p.posted[i] = before + i + 1;
         }
         for (uint32_t w = 1; w < 5; w++) {
             uint32_t ids[8];
-            for (uint32_t j = 0; j < 8; j++) ids[j] = from + w - 1 + 4 * j;
+            for (uint32_t j = 0; j < 8; j++) ids[j] = before + w + 4 * j;
             sum = with_answer(sum, pool_give_up(&p, w, ids, 8));
         }
         for (uint32_t turn = 0; turn < 400; turn++)

@@ -25,8 +25,10 @@ fn number(answer: Answer) -> u64 {
     }
 }
 
+// 33 times the sum, and the number.
 fn with(sum: u64, number: u64) -> u64 {
-    (sum << 5) ^ (sum >> 59) ^ number
+    let times32 = sum << 5;
+    std::num::wrapping_add_u64(std::num::wrapping_add_u64(times32, sum), number)
 }
 
 fn with_number(sum: u64, number: u32) -> u64 {

@@ -17,41 +17,27 @@ struct Run {
     sum: u64,
 }
 
-// Each guard i is posted on buffer from + i, which is taken for it.
-fn posted(run: Run, from: u32) -> Run {
+// Each guard i is posted on the buffer that comes i after the first `before`, which is in service.
+fn posted(run: Run, before: u8) -> Run {
     let mut p = run.pool;
-    let mut sum = run.sum;
-    for i in 0..32u32 {
-        let id = std::num::wrapping_add_u32(from, i);
-        let taken = p.take(BufferId(id));
-        let answer = taken.answer;
-        sum = with_answer(sum, answer);
-        p = taken.pool;
-        let owner = 5 + i / 8;
-        let posting = p.post(WorkerNo(owner), GuardNo(i), BufferId(id));
-        let answer = posting.answer;
-        sum = with_answer(sum, answer);
-        p = posting.pool;
-        for _ in 0..2u32 {
-            let mut none: [u32; 0] = [];
-            let done = p.advance(WorkerNo(owner), &mut none);
-            let answer = done.answer;
-            sum = with_answer(sum, answer);
-            p = done.pool;
-        }
+    for i in 0..32usize {
+        let at = (before as usize + i) % 256;
+        p.states[at] = 1;
+        p.posted[i] = (at + 1) as u32;
     }
-    Run { pool: p, sum: sum }
+    Run {
+        pool: p,
+        sum: run.sum,
+    }
 }
 
 // Workers 1 to 4 begin to give up every fourth of these buffers each.
-fn given_up(run: Run, from: u32) -> Run {
+fn given_up(run: Run, before: u8) -> Run {
     let mut p = run.pool;
     let mut sum = run.sum;
     for w in 1..5u32 {
-        let mut ids: [u32; 8] = [0, 4, 8, 12, 16, 20, 24, 28];
-        for j in 0..8usize {
-            ids[j] = std::num::wrapping_add_u32(ids[j], std::num::wrapping_add_u32(from, w - 1));
-        }
+        let a = before as u32 + w;
+        let ids = [a, a + 4, a + 8, a + 12, a + 16, a + 20, a + 24, a + 28];
         let given = p.give_up(WorkerNo(w), &ids);
         let answer = given.answer;
         sum = with_answer(sum, answer);
@@ -94,9 +80,9 @@ fn contention(times: u64, list: &mut [u32]) -> u64 {
     };
     let mut round: u64 = 0;
     while round < times {
-        let from = 1 + 32 * (round % 2) as u32;
-        run = posted(run, from);
-        run = given_up(run, from);
+        let before = (round % 2 * 32) as u8;
+        run = posted(run, before);
+        run = given_up(run, before);
         run = taken_in_turn(run, list);
         round += 1;
     }

@@ -3,7 +3,6 @@
 mod buffers;
 mod checksum;
 mod contention;
-mod growth;
 mod guards;
 mod refused;
 mod staff;

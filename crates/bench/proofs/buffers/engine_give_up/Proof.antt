@@ -8,6 +8,9 @@ use Rattle.bench.proofs.buffers.engine_give_up.Tie as tie
 returns : tie.Need-returns
 returns c = search needs
 
+make-requires : tie.Need-make-requires
+make-requires c κs = search needs
+
 ids-requires : tie.Need-ids-requires
 ids-requires c κs = search needs
 
@@ -31,6 +34,7 @@ engine-give-up-spec =
     tie.close
     (tie.spec
     returns
+    make-requires
     ids-requires
     array-share-prefix-all
     slice-aggregate-give-up

@@ -7,38 +7,38 @@ use Rattle.bench.proofs.buffers.give_up.Statement.{statement}
 use Rattle.bench.proofs.buffers.give_up.Tie as tie
 
 abbrev Inv-loop2 : tie.InvT-loop2
-Inv-loop2 times ids list p₀ sum₀ k j₀ j-end p sum j = Unit {0}
+Inv-loop2 times ids advances list p₀ sum₀ k j₀ j-end p sum j = Unit {0}
 
 abbrev μ-loop2 : tie.MeasureT-loop2
-μ-loop2 times ids list p₀ sum₀ k j₀ j-end p sum j = j-end - j
+μ-loop2 times ids advances list p₀ sum₀ k j₀ j-end p sum j = j-end - j
 
 abbrev Inv-loop3 : tie.InvT-loop3
-Inv-loop3 times ids list₀ p₀ sum₀ k counter₀ list p sum counter = length list ≡ length list₀
+Inv-loop3 times ids advances list₀ p₀ sum₀ k counter₀ list p sum counter = length list ≡ length list₀
 
 abbrev μ-loop3 : tie.MeasureT-loop3
-μ-loop3 times ids list₀ p₀ sum₀ k counter₀ list p sum counter = 7 - counter
+μ-loop3 times ids advances list₀ p₀ sum₀ k counter₀ list p sum counter = advances - counter
 
 abbrev Inv-loop : tie.InvT-loop
-Inv-loop times ids list₀ p₀ sum₀ k₀ list p sum k = length list ≡ length list₀
+Inv-loop times ids advances list₀ p₀ sum₀ k₀ list p sum k = length list ≡ length list₀
 
 abbrev μ-loop : tie.MeasureT-loop
-μ-loop times ids list₀ p₀ sum₀ k₀ list p sum k = times - k
-
-make-requires : tie.Need-make-requires Inv-loop2 μ-loop2 Inv-loop3 μ-loop3 Inv-loop μ-loop
-make-requires c κs = search needs
+μ-loop times ids advances list₀ p₀ sum₀ k₀ list p sum k = times - k
 
 loop-holds : tie.Need-loop-holds Inv-loop2 μ-loop2 Inv-loop3 μ-loop3 Inv-loop μ-loop
 loop-holds c = search needs
 
+add-k : tie.Need-add-k Inv-loop2 μ-loop2 Inv-loop3 μ-loop3 Inv-loop μ-loop
+add-k c = search needs
+
 loop2-holds : tie.Need-loop2-holds Inv-loop2 μ-loop2 Inv-loop3 μ-loop3 Inv-loop μ-loop
 loop2-holds c = search needs
 
-mul-t18 : tie.Need-mul-t18 Inv-loop2 μ-loop2 Inv-loop3 μ-loop3 Inv-loop μ-loop
-mul-t18 c = search needs
+mul-t19 : tie.Need-mul-t19 Inv-loop2 μ-loop2 Inv-loop3 μ-loop3 Inv-loop μ-loop
+mul-t19 c = search needs
 
-shared-slice-read-t20 :
-    tie.Need-shared-slice-read-t20 Inv-loop2 μ-loop2 Inv-loop3 μ-loop3 Inv-loop μ-loop
-shared-slice-read-t20 c = search needs
+shared-slice-read-t21 :
+    tie.Need-shared-slice-read-t21 Inv-loop2 μ-loop2 Inv-loop3 μ-loop3 Inv-loop μ-loop
+shared-slice-read-t21 c = search needs
 
 take-requires : tie.Need-take-requires Inv-loop2 μ-loop2 Inv-loop3 μ-loop3 Inv-loop μ-loop
 take-requires c κs = search needs
@@ -66,6 +66,12 @@ with-answer-requires-2 c κs = search needs
 loop3-holds : tie.Need-loop3-holds Inv-loop2 μ-loop2 Inv-loop3 μ-loop3 Inv-loop μ-loop
 loop3-holds c = search needs
 
+loop-less : tie.Need-loop-less Inv-loop2 μ-loop2 Inv-loop3 μ-loop3 Inv-loop μ-loop
+loop-less c = search needs
+
+loop-again : tie.Need-loop-again Inv-loop2 μ-loop2 Inv-loop3 μ-loop3 Inv-loop μ-loop
+loop-again c = search needs
+
 advance-requires : tie.Need-advance-requires Inv-loop2 μ-loop2 Inv-loop3 μ-loop3 Inv-loop μ-loop
 advance-requires c κs = search needs
 
@@ -81,15 +87,6 @@ loop3-less c = search needs
 
 loop3-again : tie.Need-loop3-again Inv-loop2 μ-loop2 Inv-loop3 μ-loop3 Inv-loop μ-loop
 loop3-again c = search needs
-
-add-k : tie.Need-add-k Inv-loop2 μ-loop2 Inv-loop3 μ-loop3 Inv-loop μ-loop
-add-k c = search needs
-
-loop-less : tie.Need-loop-less Inv-loop2 μ-loop2 Inv-loop3 μ-loop3 Inv-loop μ-loop
-loop-less c = search needs
-
-loop-again : tie.Need-loop-again Inv-loop2 μ-loop2 Inv-loop3 μ-loop3 Inv-loop μ-loop
-loop-again c = search needs
 
 with-record-requires :
     tie.Need-with-record-requires Inv-loop2 μ-loop2 Inv-loop3 μ-loop3 Inv-loop μ-loop
@@ -115,11 +112,11 @@ give-up-spec =
     μ-loop3
     Inv-loop
     μ-loop
-    make-requires
     loop-holds
+    add-k
     loop2-holds
-    mul-t18
-    shared-slice-read-t20
+    mul-t19
+    shared-slice-read-t21
     take-requires
     with-answer-requires
     add-j
@@ -128,14 +125,13 @@ give-up-spec =
     give-up-requires
     with-answer-requires-2
     loop3-holds
+    loop-less
+    loop-again
     advance-requires
     with-answer-requires-3
     add-counter
     loop3-less
     loop3-again
-    add-k
-    loop-less
-    loop-again
     with-record-requires
     with-list-requires
     same-length

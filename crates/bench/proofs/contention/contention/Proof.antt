@@ -18,14 +18,11 @@ staffed-requires c κs = search needs
 loop-holds : tie.Need-loop-holds Inv-loop μ-loop
 loop-holds c = search needs
 
-cast-from : tie.Need-cast-from Inv-loop μ-loop
-cast-from c = search needs
+mul-before : tie.Need-mul-before Inv-loop μ-loop
+mul-before c = search needs
 
-mul-from : tie.Need-mul-from Inv-loop μ-loop
-mul-from c = search needs
-
-add-from : tie.Need-add-from Inv-loop μ-loop
-add-from c = search needs
+cast-before : tie.Need-cast-before Inv-loop μ-loop
+cast-before c = search needs
 
 posted-requires : tie.Need-posted-requires Inv-loop μ-loop
 posted-requires c κs = search needs
@@ -65,9 +62,8 @@ contention-spec =
     μ-loop
     staffed-requires
     loop-holds
-    cast-from
-    mul-from
-    add-from
+    mul-before
+    cast-before
     posted-requires
     given-up-requires
     taken-in-turn-requires
