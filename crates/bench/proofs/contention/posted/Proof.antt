@@ -1,0 +1,62 @@
+-- `bench::contention::posted` is safe and ends. Assumes nothing.
+use Prim.Native.Nat.{_-_}
+use borrow.Author.Needs.{needs}
+use Rattle.bench.proofs.contention.posted.Statement.{statement}
+use Rattle.bench.proofs.contention.posted.Tie as tie
+
+abbrev Inv-loop : tie.InvT-loop
+Inv-loop run before p₀ i₀ p i = Unit {0}
+
+abbrev μ-loop : tie.MeasureT-loop
+μ-loop run before p₀ i₀ p i = 32 - i
+
+loop-holds : tie.Need-loop-holds Inv-loop μ-loop
+loop-holds c = search needs
+
+add-at : tie.Need-add-at Inv-loop μ-loop
+add-at c = search needs
+
+element-write-p : tie.Need-element-write-p Inv-loop μ-loop
+element-write-p c = search needs
+
+add-p : tie.Need-add-p Inv-loop μ-loop
+add-p c = search needs
+
+cast-p : tie.Need-cast-p Inv-loop μ-loop
+cast-p c = search needs
+
+mul-p : tie.Need-mul-p Inv-loop μ-loop
+mul-p c = search needs
+
+element-write-p-2 : tie.Need-element-write-p-2 Inv-loop μ-loop
+element-write-p-2 c = search needs
+
+add-i : tie.Need-add-i Inv-loop μ-loop
+add-i c = search needs
+
+loop-less : tie.Need-loop-less Inv-loop μ-loop
+loop-less c = search needs
+
+loop-again : tie.Need-loop-again Inv-loop μ-loop
+loop-again c = search needs
+
+returns : tie.Need-returns Inv-loop μ-loop
+returns c = search needs
+
+pub posted-spec : {M : Type 1} → statement M
+posted-spec =
+    tie.close
+    (tie.spec
+    Inv-loop
+    μ-loop
+    loop-holds
+    add-at
+    element-write-p
+    add-p
+    cast-p
+    mul-p
+    element-write-p-2
+    add-i
+    loop-less
+    loop-again
+    returns)
