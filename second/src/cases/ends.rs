@@ -60,20 +60,21 @@ fn settle(stage: &mut Stage, chance: &mut Chance) -> Go {
     stage.lay(record)
 }
 
-/// The last worker hands the last buffer back, and the last guard's slot holds the one before it.
+/// The last worker hands the last two buffers back, and the last guard's slot holds the one before them.
 fn last_ones(stage: &mut Stage, chance: &mut Chance) -> Go {
     let mut record = Record::fresh(8, 32, 256);
-    record.set_state(255, LEAVING);
-    record.set_state(256, LEAVING);
+    for id in 254..=256 {
+        record.set_state(id, LEAVING);
+    }
     record.guard_mut(31).slot = Slot {
-        id: 255,
+        id: 254,
         version: 1,
     };
     let worker = record.worker_mut(8);
     worker.label = 32;
-    worker.set.insert(256);
+    worker.set.extend([255, 256]);
     stage.lay(record)?;
-    stage.lend(vec![7; chance.below(3) as usize])?;
+    stage.lend(vec![7; chance.between(1, 3) as usize])?;
     stage.call(Call::Size { k: 8 })?;
     stage.call(Call::Audit)?;
     stage.call(Call::Advance { k: 8 })?;
