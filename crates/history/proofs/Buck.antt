@@ -124,6 +124,18 @@ module _ (slot : ℕ → Slot) (hold : ℕ → ℕ) (w : ℕ → Mover) (inv : B
       up g h (inl e) = rw e (inv .over g h)
       up g h (inr f) = λ _ l e. at h _ f l e
 
+-- A worker that leaves a guard, and does not carry what the guard holds.
+passed : (slot : ℕ → Slot) (hold : ℕ → ℕ) (x : Mover) → x .label ≡ 31 → (0 < hold (x .i) → 0 < x .member (hold (x .i)) → ⊥) → RunnerAt slot hold x
+passed slot hold x e lacks = record {
+  old = omega arith;
+  first = omega arith;
+  differ = omega arith;
+  stuck = omega arith;
+  keen = λ a b _. absurd (lacks a b);
+  last = λ a b _ _. absurd (lacks a b);
+  next = λ a b _ _ _. absurd (lacks a b);
+}
+
 -- The worker that walks: m is MAXG, po the posted id at its guard.
 walk-runner : (slot : ℕ → Slot) (hold : ℕ → ℕ) (m po : ℕ) (x x' : Mover) → Walk m po (slot (x .i)) x x' → RunnerAt slot hold x → HasV x →
     (0 < hold (x .i) → (po ≡ hold (x .i)) × (x .i ≤ m)) → (0 < slot (x .i) .id → x .member (slot (x .i) .id) ≡ 0) → RunnerAt slot hold x'
@@ -166,16 +178,7 @@ walk-runner slot hold m po x x' (w18n e n) r s f z = record {
   last = λ a b _. r .last a b (omega arith);
   next = λ a b _. r .next a b (omega arith);
 }
-walk-runner slot hold m po x x' (w22a e t) r s f z =
-    let no : 0 < hold (x .i) → 0 < x .member (hold (x .i)) → ⊥ = λ a b. let k = r .last a b (omega arith) t in r .differ e (k .1) (k .2) in record {
-      old = omega arith;
-      first = omega arith;
-      differ = omega arith;
-      stuck = omega arith;
-      keen = λ a b _. absurd (no a b);
-      last = λ a b _ _. absurd (no a b);
-      next = λ a b _ _ _. absurd (no a b);
-    }
+walk-runner slot hold m po x x' (w22a e t) r s f z = passed slot hold _ refl (λ a b. let k = r .last a b (omega arith) t in r .differ e (k .1) (k .2))
 walk-runner slot hold m po x x' (w22b e t) r s f z = record {
   old = omega arith;
   first = omega arith;
@@ -185,26 +188,8 @@ walk-runner slot hold m po x x' (w22b e t) r s f z = record {
   last = λ a b _ q. (not-pos _ (λ l. let k = r .next a b (omega arith) (omega arith) l in r .differ e (k .0) (k .1)), refl, refl);
   next = λ _ _ _ _ _. (refl, refl);
 }
-walk-runner slot hold m po x x' (w25a e t l) r s f z =
-    let no : 0 < hold (x .i) → 0 < x .member (hold (x .i)) → ⊥ = λ a b. omega (arith, r .last a b (omega arith) t) in record {
-      old = omega arith;
-      first = omega arith;
-      differ = omega arith;
-      stuck = omega arith;
-      keen = λ a b _. absurd (no a b);
-      last = λ a b _ _. absurd (no a b);
-      next = λ a b _ _ _. absurd (no a b);
-    }
-walk-runner slot hold m po x x' (w25b e n) r s f z =
-    let no : 0 < hold (x .i) → 0 < x .member (hold (x .i)) → ⊥ = λ a b. n (r .keen a b (omega arith) .1 ∙ sym (f a .0)) in record {
-      old = omega arith;
-      first = omega arith;
-      differ = omega arith;
-      stuck = omega arith;
-      keen = λ a b _. absurd (no a b);
-      last = λ a b _ _. absurd (no a b);
-      next = λ a b _ _ _. absurd (no a b);
-    }
+walk-runner slot hold m po x x' (w25a e t l) r s f z = passed slot hold _ refl (λ a b. omega (arith, r .last a b (omega arith) t))
+walk-runner slot hold m po x x' (w25b e n) r s f z = passed slot hold _ refl (λ a b. n (r .keen a b (omega arith) .1 ∙ sym (f a .0)))
 walk-runner slot hold m po x x' (w25c e q) r s f z = record {
   old = λ _ _. r .old (omega arith) (omega arith);
   first = omega arith;
@@ -214,16 +199,7 @@ walk-runner slot hold m po x x' (w25c e q) r s f z = record {
   last = λ a b _. r .last a b (omega arith);
   next = λ a b _. r .next a b (omega arith);
 }
-walk-runner slot hold m po x x' (w28n e) r s f z =
-    let no : 0 < hold (x .i) → 0 < x .member (hold (x .i)) → ⊥ = λ a b. omega (arith, r .keen a b (omega arith)) in record {
-      old = omega arith;
-      first = omega arith;
-      differ = omega arith;
-      stuck = omega arith;
-      keen = λ a b _. absurd (no a b);
-      last = λ a b _ _. absurd (no a b);
-      next = λ a b _ _ _. absurd (no a b);
-    }
+walk-runner slot hold m po x x' (w28n e) r s f z = passed slot hold _ refl (λ a b. omega (arith, r .keen a b (omega arith)))
 walk-runner slot hold m po x x' (w31 e) r s f z = omega arith
 
 -- It has the held buffer, and y is about to store.

@@ -18,7 +18,6 @@ use crate::handback::freed;
 use crate::handback::hand;
 use crate::sound::parts_sound;
 use idset::IdSet;
-use worker::Slot;
 use worker::Worker;
 
 // Where guard n stands in the arrays; for a worker that is at no guard, a place that stands for none.
@@ -142,15 +141,8 @@ impl Pool {
         requires { ⌜ k < 8 ⌝ }
         ensures { λ r. ⌜ told r ≡ ends k (said answer) self ⌝ }
     {
-        let h = Slot { id: 0, version: 0 };
-        self.workers[k] = Worker {
-            label: 0,
-            i: 0,
-            v: 0,
-            h: h,
-            attempts: 0,
-            max: 0,
-        };
+        let idle = Worker::idle();
+        self.workers[k] = idle;
         let none = IdSet::empty();
         self.sets[k] = none;
         Outcome {

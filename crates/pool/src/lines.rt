@@ -89,15 +89,7 @@ impl Reach {
     fn ends(self, answer: Answer) -> Moved
         ensures { λ r. ⌜ r ≡ storing answer noWorker noIds self ⌝ }
     {
-        let h = Slot { id: 0, version: 0 };
-        let idle = Worker {
-            label: 0,
-            i: 0,
-            v: 0,
-            h: h,
-            attempts: 0,
-            max: 0,
-        };
+        let idle = Worker::idle();
         let none = IdSet::empty();
         self.stores(answer, idle, none)
     }

@@ -8,7 +8,6 @@ use crate::Outcome;
 use crate::Pool;
 use crate::Refusal;
 use idset::IdSet;
-use worker::Slot;
 use worker::Worker;
 
 impl Pool {
@@ -34,18 +33,10 @@ impl Pool {
     }
 
     // The record of these counts whose every other number is 0.
-    fn blank(w: u32, g: u32, b: u32) -> Pool
+    pub fn blank(w: u32, g: u32, b: u32) -> Pool
         ensures { λ r. ⌜ r ≡ blank w g b ⌝ }
     {
-        let h = Slot { id: 0, version: 0 };
-        let idle = Worker {
-            label: 0,
-            i: 0,
-            v: 0,
-            h: h,
-            attempts: 0,
-            max: 0,
-        };
+        let idle = Worker::idle();
         let none = IdSet::empty();
         Pool {
             w: w,

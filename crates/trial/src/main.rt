@@ -15,7 +15,6 @@ use crate::output::put_answer;
 use crate::output::put_line;
 use crate::output::put_record;
 use crate::parts::Setting;
-use crate::parts::bare_pool;
 use crate::parts::set_guard;
 use crate::parts::set_pool;
 use crate::parts::set_set;
@@ -80,7 +79,7 @@ impl Bench {
         Bench {
             going: true,
             understood: true,
-            pool: bare_pool(0, 0, 0, 0),
+            pool: Pool::blank(0, 0, 0),
             length: 0,
             at: 0,
             filled: 0,

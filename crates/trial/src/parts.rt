@@ -17,34 +17,6 @@ fn refused(pool: Pool) -> Setting {
     }
 }
 
-// A record of zeros but for the four numbers of the pool.
-pub fn bare_pool(w: u32, g: u32, b: u32, maxg: u32) -> Pool {
-    let h = Slot { id: 0, version: 0 };
-    let idle = Worker {
-        label: 0,
-        i: 0,
-        v: 0,
-        h: h,
-        attempts: 0,
-        max: 0,
-    };
-    let none = IdSet::empty();
-    Pool {
-        w: w,
-        g: g,
-        b: b,
-        maxg: maxg,
-        taken: [false; 32],
-        employer: [0; 32],
-        posted: [0; 32],
-        slot_id: [0; 32],
-        slot_version: [0; 32],
-        states: [0; 256],
-        workers: [idle; 8],
-        sets: [none; 8],
-    }
-}
-
 // The entry of a worker's number; 8 for a number that no worker has.
 fn entry_of(no: u32) -> usize
     ensures { λ r. ⌜ r ≤ 8 ⌝ }
@@ -62,9 +34,11 @@ pub fn set_pool(old: Pool, n: &[u32]) -> Setting {
     if n.len() != 4 {
         return refused(old);
     }
+    let mut pool = Pool::blank(n[0], n[1], n[2]);
+    pool.maxg = n[3];
     Setting {
         understood: true,
-        pool: bare_pool(n[0], n[1], n[2], n[3]),
+        pool: pool,
     }
 }
 

@@ -2,6 +2,9 @@
 pub mod lent;
 mod step;
 
+ghost use mathlib.Core.Path.{_≡_};
+ghost use Rattle.worker.specs.Registers.{noWorker};
+
 // A hand-off slot's contents.
 pub struct Slot {
     pub id: u32,
@@ -16,6 +19,23 @@ pub struct Worker {
     pub h: Slot,
     pub attempts: u32,
     pub max: u32,
+}
+
+impl Worker {
+    // The label idle, and every register 0.
+    pub fn idle() -> Worker
+        ensures { λ r. ⌜ r ≡ noWorker ⌝ }
+    {
+        let h = Slot { id: 0, version: 0 };
+        Worker {
+            label: 0,
+            i: 0,
+            v: 0,
+            h: h,
+            attempts: 0,
+            max: 0,
+        }
+    }
 }
 
 // Whether the worker's label is one of this crate's, and the worker afterwards.

@@ -4,11 +4,14 @@ use borrow.Author.Needs.{needs}
 use Rattle.pool.proofs.Pool.ends.Statement.{statement}
 use Rattle.pool.proofs.Pool.ends.Tie as tie
 
-mul-t8 : tie.Need-mul-t8
-mul-t8 c = search needs
+idle-requires : tie.Need-idle-requires
+idle-requires c κs = search needs
 
-element-set-from-self : tie.Need-element-set-from-self
-element-set-from-self c = search needs
+mul-idle : tie.Need-mul-idle
+mul-idle c = search needs
+
+element-set-from-idle : tie.Need-element-set-from-idle
+element-set-from-idle c = search needs
 
 empty-requires : tie.Need-empty-requires
 empty-requires c κs = search needs
@@ -21,9 +24,16 @@ element-set-from-none c = search needs
 
 returns : tie.Need-returns
 unfolding ends
-returns c = rw (c .empty .ensures)
+returns c = rw (c .empty .ensures, c .before .idle .ensures)
 
 pub ends-spec : {M : Type 1} → statement M
 ends-spec =
     tie.close
-    (tie.spec mul-t8 element-set-from-self empty-requires mul-none element-set-from-none returns)
+    (tie.spec
+    idle-requires
+    mul-idle
+    element-set-from-idle
+    empty-requires
+    mul-none
+    element-set-from-none
+    returns)
