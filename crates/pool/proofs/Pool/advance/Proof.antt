@@ -1,183 +1,135 @@
+-- `pool::Pool::advance` meets its contract. Assumes nothing.
 use Prim.Native.Nat.{_-_}
+use borrow.Author.Needs.{needs}
 use lib.ListN.{length}
 use mathlib.Core.Path.{refl}
 use Rattle.pool.proofs.Dispatch.{judged, stopped, stopped-list, some, entry-below, idle-stops, here-stands, i-least, line-goes, hand-goes}
-use borrow.Author.Needs.{needs}
 use Rattle.pool.proofs.Pool.advance.Statement.{statement}
 use Rattle.pool.proofs.Pool.advance.Tie as tie
-use Rattle.pool.proofs.Pool.advance.Reads as reads
-use Rattle.pool.proofs.Pool.advance.Lts as lts
-use Rattle.pool.proofs.Pool.line32.Reads as line32-reads
-use Rattle.pool.proofs.Reach.line.Reads as line-reads
-use Rattle.pool.proofs.advance.place_of.Reads as place-of-reads
-use Rattle.pool.proofs.checks.worker_verdict.Reads as worker-verdict-reads
-use Rattle.pool.proofs.sound.parts_sound.Reads as parts-sound-reads
 
--- src/advance.rt:39:13
 parts-sound-requires : tie.Need-parts-sound-requires
 parts-sound-requires c κs = search needs
 
--- src/advance.rt:53:13
 worker-verdict-requires : tie.Need-worker-verdict-requires
 worker-verdict-requires c κs = search needs
 
--- src/advance.rt:55:28
 enum-known-check : tie.Need-enum-known-check
 enum-known-check c = search needs
 
--- src/advance.rt:60:26
 enum-told : tie.Need-enum-told
 enum-told c = search needs
 
--- src/advance.rt:60:26
 sub-k : tie.Need-sub-k
 sub-k c = let told = c .before in let check = told .before .before in let a = check .before .before .before .before .before .before .before .before .before .before .before .before .args in let e = judged (check .worker-verdict .result) (check .before .parts-sound .result) (a .t1) (a .w) (check .worker-verdict .ensures) (check .before .parts-sound .ensures) in let q = told .enum-told .given .1 in some _ (a .t1) (a .w) e (a .out .now) q
 
--- src/advance.rt:60:25
 cast-k : tie.Need-cast-k
 cast-k c = search needs
 
--- src/advance.rt:61:26
 mul-me : tie.Need-mul-me
 mul-me c = search needs
 
--- src/advance.rt:61:26
 element-copy-out-me : tie.Need-element-copy-out-me
 element-copy-out-me c = let told = c .before in let check = told .before .before in let a = check .before .before .before .before .before .before .before .before .before .before .before .before .args in let e = judged (check .worker-verdict .result) (check .before .parts-sound .result) (a .t1) (a .w) (check .worker-verdict .ensures) (check .before .parts-sound .ensures) in let q = told .enum-told .given .1 in entry-below _ (a .t1) (a .w) e (a .out .now) q
 
--- src/advance.rt:63:21
 returns : tie.Need-returns
 returns c = let told = c .before .before .before .before in let check = told .before .before in let a = check .before .before .before .before .before .before .before .before .before .before .before .before .args in let e = judged (check .worker-verdict .result) (check .before .parts-sound .result) (a .t1) (a .w) (check .worker-verdict .ensures) (check .before .parts-sound .ensures) in let q = told .enum-told .given .1 in idle-stops _ (a .t1) (a .w) e (a .out .now) q (c .if1 .taken)
 
--- src/advance.rt:69:21
 line32-requires : tie.Need-line32-requires
 line32-requires c κs = let told = c .before .before .before .before .before .before .before in let check = told .before .before in let a = check .before .before .before .before .before .before .before .before .before .before .before .before .args in let e = judged (check .worker-verdict .result) (check .before .parts-sound .result) (a .t1) (a .w) (check .worker-verdict .ensures) (check .before .parts-sound .ensures) in let q = told .enum-told .given .1 in entry-below _ (a .t1) (a .w) e (a .out .now) q
 
--- src/advance.rt:69:21
 same-length : tie.Need-same-length
 same-length c = search needs
 
--- src/advance.rt:69:21
 returns-2 : tie.Need-returns-2
 returns-2 c = let told = c .before .before .before .before .before .before .before .before .before .before in let check = told .before .before in let a = check .before .before .before .before .before .before .before .before .before .before .before .before .args in let e = judged (check .worker-verdict .result) (check .before .parts-sound .result) (a .t1) (a .w) (check .worker-verdict .ensures) (check .before .parts-sound .ensures) in let q = told .enum-told .given .1 in hand-goes _ (a .t1) (a .w) e (a .out .now) q (c .before .before .before .before .before .before .if1 .left) _ _ (c .before .before .before .before .if2 .taken) (c .before .before .line32 .ensures .0) (c .before .before .line32 .ensures .1)
 
--- src/advance.rt:71:27
 mul-set : tie.Need-mul-set
 mul-set c = search needs
 
--- src/advance.rt:71:27
 element-copy-out-set : tie.Need-element-copy-out-set
 element-copy-out-set c = let told = c .before .before .before .before .before .before in let check = told .before .before in let a = check .before .before .before .before .before .before .before .before .before .before .before .before .args in let e = judged (check .worker-verdict .result) (check .before .parts-sound .result) (a .t1) (a .w) (check .worker-verdict .ensures) (check .before .parts-sound .ensures) in let q = told .enum-told .given .1 in entry-below _ (a .t1) (a .w) e (a .out .now) q
 
--- src/advance.rt:72:21
 place-of-requires : tie.Need-place-of-requires
 place-of-requires c κs = search needs
 
--- src/advance.rt:73:27
 add-no : tie.Need-add-no
 add-no c = search needs
 
--- src/advance.rt:73:26
 cast-no : tie.Need-cast-no
 cast-no c = search needs
 
--- src/advance.rt:74:29
 element-copy-out-taken : tie.Need-element-copy-out-taken
 element-copy-out-taken c = search needs
 
--- src/advance.rt:75:32
 mul-employer : tie.Need-mul-employer
 mul-employer c = search needs
 
--- src/advance.rt:75:32
 element-copy-out-employer : tie.Need-element-copy-out-employer
 element-copy-out-employer c = search needs
 
--- src/advance.rt:76:30
 mul-posted : tie.Need-mul-posted
 mul-posted c = search needs
 
--- src/advance.rt:76:30
 element-copy-out-posted : tie.Need-element-copy-out-posted
 element-copy-out-posted c = search needs
 
--- src/advance.rt:77:31
 mul-slot-id : tie.Need-mul-slot-id
 mul-slot-id c = search needs
 
--- src/advance.rt:77:31
 element-copy-out-slot-id : tie.Need-element-copy-out-slot-id
 element-copy-out-slot-id c = search needs
 
--- src/advance.rt:78:36
 mul-slot-version : tie.Need-mul-slot-version
 mul-slot-version c = search needs
 
--- src/advance.rt:78:36
 element-copy-out-slot-version : tie.Need-element-copy-out-slot-version
 element-copy-out-slot-version c = search needs
 
--- src/advance.rt:91:21
 line-requires : tie.Need-line-requires
 line-requires c κs = let told = c .before .before .before .before .before .before .before .before .before .before .before .before .before in let check = told .before .before in let a = check .before .before .before .before .before .before .before .before .before .before .before .before .args in let e = judged (check .worker-verdict .result) (check .before .parts-sound .result) (a .t1) (a .w) (check .worker-verdict .ensures) (check .before .parts-sound .ensures) in let q = told .enum-told .given .1 in i-least (check .worker-verdict .result) (a .t1) (a .w) e (a .out .now) q (c .before .before .before .before .before .before .before .before .before .if1 .left)
 
--- src/advance.rt:96:17
 mul-self : tie.Need-mul-self
 mul-self c = search needs
 
--- src/advance.rt:96:17
 element-write-self : tie.Need-element-write-self
 element-write-self c = search needs
 
--- src/advance.rt:97:17
 mul-self-2 : tie.Need-mul-self-2
 mul-self-2 c = search needs
 
--- src/advance.rt:97:17
 element-write-self-2 : tie.Need-element-write-self-2
 element-write-self-2 c = search needs
 
--- src/advance.rt:98:17
 mul-self-3 : tie.Need-mul-self-3
 mul-self-3 c = search needs
 
--- src/advance.rt:98:17
 element-write-self-3 : tie.Need-element-write-self-3
 element-write-self-3 c = search needs
 
--- src/advance.rt:99:17
 mul-self-4 : tie.Need-mul-self-4
 mul-self-4 c = search needs
 
--- src/advance.rt:99:17
 element-write-self-4 : tie.Need-element-write-self-4
 element-write-self-4 c = search needs
 
--- src/advance.rt:100:17
 element-write-self-5 : tie.Need-element-write-self-5
 element-write-self-5 c = search needs
 
--- src/advance.rt:102:17
 mul-s : tie.Need-mul-s
 mul-s c = search needs
 
--- src/advance.rt:102:17
 element-set-from-s : tie.Need-element-set-from-s
 element-set-from-s c = let told = c .before .before .before .before .before .before .before .before .before .before .before .before .before .before .before .before .before in let check = told .before .before in let a = check .before .before .before .before .before .before .before .before .before .before .before .before .args in let e = judged (check .worker-verdict .result) (check .before .parts-sound .result) (a .t1) (a .w) (check .worker-verdict .ensures) (check .before .parts-sound .ensures) in let q = told .enum-told .given .1 in entry-below _ (a .t1) (a .w) e (a .out .now) q
 
--- src/advance.rt:103:17
 mul-x : tie.Need-mul-x
 mul-x c = search needs
 
--- src/advance.rt:103:17
 element-set-from-x : tie.Need-element-set-from-x
 element-set-from-x c = let told = c .before .before .before .before .before .before .before .before .before .before .before .before .before .before .before .before .before in let check = told .before .before in let a = check .before .before .before .before .before .before .before .before .before .before .before .before .args in let e = judged (check .worker-verdict .result) (check .before .parts-sound .result) (a .t1) (a .w) (check .worker-verdict .ensures) (check .before .parts-sound .ensures) in let q = told .enum-told .given .1 in entry-below _ (a .t1) (a .w) e (a .out .now) q
 
--- src/advance.rt:33:5
 returns-3 : tie.Need-returns-3
 returns-3 c = let told = c .before in let check = told .before .before in let a = check .before .before .before .before .before .before .before .before .before .before .before .before .args in let e = judged (check .worker-verdict .result) (check .before .parts-sound .result) (a .t1) (a .w) (check .worker-verdict .ensures) (check .before .parts-sound .ensures) in (search (stopped (check .worker-verdict .result) (a .t1) (a .w) e), search (stopped-list (check .worker-verdict .result) (a .t1) (a .w) e))
 
--- src/advance.rt:33:5
 returns-4 : tie.Need-returns-4
 returns-4 c = let told = c .before .before .before .before .before .before .before .before .before .before .before .before .before .before .before .before .before in let check = told .before .before in let a = check .before .before .before .before .before .before .before .before .before .before .before .before .args in let e = judged (check .worker-verdict .result) (check .before .parts-sound .result) (a .t1) (a .w) (check .worker-verdict .ensures) (check .before .parts-sound .ensures) in let q = told .enum-told .given .1 in let busy = c .before .before .before .before .before .before .before .before .before .before .before .before .before .if1 .left in let not-last = c .before .before .before .before .before .before .before .before .before .before .before .if2 .left in line-goes _ (a .t1) (a .w) e (a .out .now) q busy _ not-last (c .before .before .before .line .ensures (a .w .0 - 1) (c .before .before .before .before .before .before .before .before .before .place-of .result) (a .t1) refl (here-stands _ (a .t1) (a .w) e (a .out .now) q busy) (c .before .before .before .before .before .before .before .before .before .place-of .ensures .1) not-last (length (a .out .now)))
 

@@ -1,22 +1,17 @@
+-- `pool::checks::worker_verdict` meets its contract. Assumes nothing.
 use Rattle.pool.proofs.Told.{checks}
 use Rattle.pool.proofs.checks.worker_verdict.Statement.{statement}
 use Rattle.pool.proofs.checks.worker_verdict.Tie as tie
-use Rattle.pool.proofs.checks.worker_verdict.Reads as reads
-use Rattle.pool.proofs.checks.worker_verdict.Lts as lts
 
--- src/checks.rt:23:9
 returns : tie.Need-returns
 returns c = search checks depth 12
 
--- src/checks.rt:27:9
 returns-2 : tie.Need-returns-2
 returns-2 c = search checks depth 12
 
--- src/checks.rt:30:9
 returns-3 : tie.Need-returns-3
 returns-3 c = search checks depth 12
 
--- src/checks.rt:19:1
 returns-4 : tie.Need-returns-4
 returns-4 c = search checks depth 12
 

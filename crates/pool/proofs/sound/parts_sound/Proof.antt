@@ -1,61 +1,42 @@
-use Rattle.pool.proofs.Scans.{scanned-by}
+-- `pool::sound::parts_sound` meets its contract. Assumes nothing.
 use borrow.Author.Needs.{needs}
+use Rattle.pool.proofs.Scans.{scanned-by}
 use Rattle.pool.proofs.sound.parts_sound.Statement.{statement}
 use Rattle.pool.proofs.sound.parts_sound.Tie as tie
-use Rattle.pool.proofs.sound.parts_sound.Reads as reads
-use Rattle.pool.proofs.sound.parts_sound.Lts as lts
-use Rattle.pool.proofs.sound.at_most.Reads as at-most-reads
-use Rattle.pool.proofs.sound.free_from.Reads as free-from-reads
-use Rattle.pool.proofs.sound.states_known.Reads as states-known-reads
-use Rattle.pool.proofs.sound.untaken_from.Reads as untaken-from-reads
-use Rattle.pool.proofs.sound.workers_fit.Reads as workers-fit-reads
-use Rattle.pool.proofs.sound.zero_from.Reads as zero-from-reads
 
--- src/sound.rt:140:9
 untaken-from-requires : tie.Need-untaken-from-requires
 untaken-from-requires c κs = search needs
 
--- src/sound.rt:141:21
 at-most-requires : tie.Need-at-most-requires
 at-most-requires c κs = search needs
 
--- src/sound.rt:141:44
 zero-from-requires : tie.Need-zero-from-requires
 zero-from-requires c κs = search needs
 
--- src/sound.rt:142:17
 at-most-requires-2 : tie.Need-at-most-requires-2
 at-most-requires-2 c κs = search needs
 
--- src/sound.rt:142:38
 zero-from-requires-2 : tie.Need-zero-from-requires-2
 zero-from-requires-2 c κs = search needs
 
--- src/sound.rt:143:15
 at-most-requires-3 : tie.Need-at-most-requires-3
 at-most-requires-3 c κs = search needs
 
--- src/sound.rt:143:37
 zero-from-requires-3 : tie.Need-zero-from-requires-3
 zero-from-requires-3 c κs = search needs
 
--- src/sound.rt:144:9
 zero-from-requires-4 : tie.Need-zero-from-requires-4
 zero-from-requires-4 c κs = search needs
 
--- src/sound.rt:145:19
 states-known-requires : tie.Need-states-known-requires
 states-known-requires c κs = search needs
 
--- src/sound.rt:145:42
 free-from-requires : tie.Need-free-from-requires
 free-from-requires c κs = search needs
 
--- src/sound.rt:146:9
 workers-fit-requires : tie.Need-workers-fit-requires
 workers-fit-requires c κs = search needs
 
--- src/sound.rt:123:1
 returns : tie.Need-returns
 returns c = scanned-by _ (c .before .before .before .before .before .before .before .before .before .before .untaken-from .ensures) (c .before .before .before .before .before .before .before .before .before .at-most .ensures) (c .before .before .before .before .before .before .before .before .zero-from .ensures) (c .before .before .before .before .before .before .before .at-most2 .ensures) (c .before .before .before .before .before .before .zero-from2 .ensures) (c .before .before .before .before .before .at-most3 .ensures) (c .before .before .before .before .zero-from3 .ensures) (c .before .before .before .zero-from4 .ensures) (c .before .before .states-known .ensures) (c .before .free-from .ensures) (c .workers-fit .ensures)
 
