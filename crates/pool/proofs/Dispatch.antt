@@ -91,34 +91,34 @@ module _ (s : Reach) (m : Moved) where
         let at : workerAt p k .label ≡ n = rw q at e in
         rw (at, made, q) (own-stored k i p (ownStep (reachAt k i p)) ∙ line k i p st here at room)
 
-    pub own4 : s .me .label ≡ 4 → TakesLine s m
+    own4 : s .me .label ≡ 4 → TakesLine s m
     unfolding lineOf lineCheck when afterCheck
     own4 e = own-arm 4 e (λ k i p st here at room. ap (λ (z : Stepped). puts k (z .worker) p) (step-4 _ _ _ _ _ at))
 
-    pub own12 : s .me .label ≡ 12 → TakesLine s m
+    own12 : s .me .label ≡ 12 → TakesLine s m
     unfolding lineOf lineCheck when afterCheck
     own12 e = own-arm 12 e (λ k i p st here at room. ap (λ (z : Stepped). puts k (z .worker) p) (step-12 _ _ _ _ _ at))
 
-    pub own13 : s .me .label ≡ 13 → TakesLine s m
+    own13 : s .me .label ≡ 13 → TakesLine s m
     unfolding lineOf lineCheck when afterCheck
     own13 e =
         own-arm 13 e (λ k i p st here at room.
         rw (here (ready p k 13 st at refl .i-below)) (ap (λ (z : Stepped). puts k (z .worker) p) (step-13 _ _ _ _ _ at)))
 
-    pub own15 : s .me .label ≡ 15 → TakesLine s m
+    own15 : s .me .label ≡ 15 → TakesLine s m
     unfolding lineOf lineCheck when afterCheck
     own15 e =
         own-arm 15 e (λ k i p st here at room.
         rw (here (ready p k 15 st at refl .i-below)) (ap (λ (z : Stepped). puts k (z .worker) p) (step-15 _ _ _ _ _ at)))
 
-    pub own22 : s .me .label ≡ 22 → TakesLine s m
+    own22 : s .me .label ≡ 22 → TakesLine s m
     unfolding lineOf lineCheck when afterCheck
     own22 e =
         own-arm 22 e (λ k i p st here at room.
         let r = ready p k 22 st at refl in
         rw (here (r .i-below)) (ap (λ (z : Stepped). puts k (z .worker) p) (step-22 _ _ _ _ _ at (omega (arith, r .attempts-most)))))
 
-    pub own25 : s .me .label ≡ 25 → TakesLine s m
+    own25 : s .me .label ≡ 25 → TakesLine s m
     unfolding lineOf lineCheck when afterCheck
     own25 e =
         own-arm 25 e (λ k i p st here at room.
@@ -130,14 +130,26 @@ module _ (s : Reach) (m : Moved) where
         own-arm 31 e (λ k i p st here at room.
         ap (λ (z : Stepped). puts k (z .worker) p) (step-31 _ _ _ _ _ at (omega (arith, ready p k 31 st at refl .i-below))))
 
-    -- at none of the labels before 31, and not at 32 either
-    pub own-last : ((s .me .label ≡ 31 → ⊥) → among before32 (s .me .label) ≡ false) → TakesLine s m
-    own-last none k i p q st here not-last room =
-        go (ℕ-discrete (s .me .label) 31)
+    -- one label more is asked
+    asked : (n : ℕ) → (s .me .label ≡ n → TakesLine s m) → ((s .me .label ≡ n → ⊥) → TakesLine s m) → TakesLine s m
+    asked n here other = go (ℕ-discrete (s .me .label) n)
       where
-        go : Dec (s .me .label ≡ 31) → storedAt k i m p ≡ Full (workerAt p k .label) k p room
-        go (yes e) = own31 e k i p q st here not-last room
-        go (no n) = absurd (not-last (last-label st (rw q at (none n))))
+        go : Dec (s .me .label ≡ n) → TakesLine s m
+        go (yes e) = here e
+        go (no n) = other n
+
+    -- at none of the labels that have a line of their own, and not at 32 either
+    pub own-rest : ((s .me .label ≡ 4 → ⊥) → (s .me .label ≡ 12 → ⊥) → (s .me .label ≡ 13 → ⊥) → (s .me .label ≡ 15 → ⊥) → (s .me .label ≡ 22 → ⊥)
+        → (s .me .label ≡ 25 → ⊥) → (s .me .label ≡ 31 → ⊥) → among before32 (s .me .label) ≡ false) → TakesLine s m
+    own-rest none =
+        asked 4 own4 (λ n4.
+        asked 12 own12 (λ n12.
+        asked 13 own13 (λ n13.
+        asked 15 own15 (λ n15.
+        asked 22 own22 (λ n22.
+        asked 25 own25 (λ n25.
+        asked 31 own31 (λ n31 k i p q st here not-last room.
+        absurd (not-last (last-label st (rw q at (none n4 n12 n13 n15 n22 n25 n31)))))))))))
 
 -- ---- label 32
 

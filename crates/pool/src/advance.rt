@@ -50,61 +50,59 @@ impl Pool {
             sets,
         );
         let check = worker_verdict(sound, self.w, w);
-        match check {
-            Verdict::Fault(refusal, place) => Outcome {
+        if let Verdict::Fault(refusal, place) = check {
+            return Outcome {
                 answer: Answer::Refused(refusal, place),
                 pool: self,
-            },
-            Verdict::Fine => {
-                let k = (w.0 - 1) as usize;
-                let me = self.workers[k];
-                if me.label == 0 {
-                    return Outcome {
-                        answer: Answer::Refused(Refusal::WorkerIdle, 0),
-                        pool: self,
-                    };
-                }
-                if me.label == 32 {
-                    return self.line32(k, out);
-                }
-                let set = self.sets[k];
-                let i = place_of(me.i);
-                let no = (k + 1) as u32;
-                let taken = self.taken[i];
-                let employer = self.employer[i];
-                let posted = self.posted[i];
-                let slot_id = self.slot_id[i];
-                let slot_version = self.slot_version[i];
-                let reach = Reach {
-                    no: no,
-                    g: self.g,
-                    me: me,
-                    set: set,
-                    maxg: self.maxg,
-                    taken: taken,
-                    employer: employer,
-                    posted: posted,
-                    slot_id: slot_id,
-                    slot_version: slot_version,
-                };
-                let moved = reach.line();
-                let answer = moved.answer;
-                let after = moved.reach;
-                let x = after.me;
-                let s = after.set;
-                self.slot_id[i] = after.slot_id;
-                self.slot_version[i] = after.slot_version;
-                self.posted[i] = after.posted;
-                self.employer[i] = after.employer;
-                self.taken[i] = after.taken;
-                self.maxg = after.maxg;
-                self.sets[k] = s;
-                self.workers[k] = x;
-                Outcome {
-                    answer: answer,
-                    pool: self,
-                }
-            }
+            };
+        }
+        let k = (w.0 - 1) as usize;
+        let me = self.workers[k];
+        if me.label == 0 {
+            return Outcome {
+                answer: Answer::Refused(Refusal::WorkerIdle, 0),
+                pool: self,
+            };
+        }
+        if me.label == 32 {
+            return self.line32(k, out);
+        }
+        let set = self.sets[k];
+        let i = place_of(me.i);
+        let no = (k + 1) as u32;
+        let taken = self.taken[i];
+        let employer = self.employer[i];
+        let posted = self.posted[i];
+        let slot_id = self.slot_id[i];
+        let slot_version = self.slot_version[i];
+        let reach = Reach {
+            no: no,
+            g: self.g,
+            me: me,
+            set: set,
+            maxg: self.maxg,
+            taken: taken,
+            employer: employer,
+            posted: posted,
+            slot_id: slot_id,
+            slot_version: slot_version,
+        };
+        let moved = reach.line();
+        let answer = moved.answer;
+        let after = moved.reach;
+        let x = after.me;
+        let s = after.set;
+        self.slot_id[i] = after.slot_id;
+        self.slot_version[i] = after.slot_version;
+        self.posted[i] = after.posted;
+        self.employer[i] = after.employer;
+        self.taken[i] = after.taken;
+        self.maxg = after.maxg;
+        self.sets[k] = s;
+        self.workers[k] = x;
+        Outcome {
+            answer: answer,
+            pool: self,
         }
     }
 

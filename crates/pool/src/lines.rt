@@ -37,20 +37,15 @@ impl Reach {
         let label = me.label;
         match label {
             2 => self.line2(),
-            4 => self.own_line(),
             5 => self.line5(),
             6 => self.line6(),
             7 => self.line7(),
             8 => self.ends(Answer::Fired),
             9 => self.line9(),
             10 => self.ends(Answer::Posted),
-            12 => self.own_line(),
-            13 => self.own_line(),
-            15 => self.own_line(),
             18 => self.line18(),
-            22 => self.own_line(),
-            25 => self.own_line(),
             28 => self.line28(),
+            // 4, 12, 13, 15, 22, 25 and 31. One call for them all, which the compiler then puts in place.
             _ => self.own_line(),
         }
     }
