@@ -1,7 +1,7 @@
 -- What is known of the record and the arguments once a check has found nothing: `search` finds each by what the check's code answered.
 -- Assumes nothing.
 use mathlib.Core.Path.{_≡_, refl, sym, _∙_}
-use mathlib.Core.Bool.{Bool, true, false, not}
+use mathlib.Core.Bool.{Bool, true}
 use mathlib.Core.List.{List}
 use Prim.Native.Nat.{ℕ, _-_, _≤_, _<_}
 use lib.ListN.{length}
@@ -9,7 +9,7 @@ use native.Mathlib.Omega.{arith}
 use mir.Syntax.{w64}
 use mir.Val.{Fits}
 use lib.Dec.{eqb, leb, ltb}
-use borrow.Author.Tests.{ltb-false, leb-false, eqb-true, not-false}
+use borrow.Author.Tests.{ltb-false, leb-false, eqb-true}
 use Rattle.basics.proofs.Picks.{when-back, unless-back}
 use Rattle.pool.specs.declared.Pool.{Pool}
 use Rattle.pool.specs.declared.WorkerNo.{WorkerNo}
@@ -37,6 +37,10 @@ never h = let z : _≡_ {A = ℕ} 0 1 = cc in omega arith
 
 pub sound-of : (p : Pool) → soundCheck p ≡ fine → soundOf p ≡ true
 sound-of p h = unless-back (soundOf p) fine (refuse 2 0) fine never h .0
+
+-- and then it has at most 256 buffers
+pub buffers-if : (s : Bool) (p : Pool) → s ≡ soundOf p → s ≡ true → p .b ≤ 256
+buffers-if s p e t = sizes-of p (sym e ∙ t) .b-most
 
 -- ---- the worker is one of the pool's
 
@@ -232,13 +236,10 @@ guard-at v u p w g e q f r = slot-index (begun p w (fine-by v e q) .worker) (emp
 pub id-some : (v : Verdict) (p : Pool) (id place : ℕ) → verdict v ≡ idCheck p id place → v ≡ Fine → 1 ≤ id
 id-some v p id place e q = buffer p id place (fine-by v e q) .some
 
-pub id-at : (v : Verdict) (p : Pool) (id place : ℕ) (s : Bool) → verdict v ≡ idCheck p id place → v ≡ Fine → s ≡ soundOf p → not s ≡ false → id - 1 < 256
-id-at v p id place s e q h t = state-index (sizes-of p (sym h ∙ not-false s t)) (buffer p id place (fine-by v e q))
-
 pub id-below : (v : Verdict) (p : Pool) (id place : ℕ) → verdict v ≡ idCheck p id place → v ≡ Fine → p .b ≤ 256 → id - 1 < 256
 id-below v p id place e q h = let b = buffer p id place (fine-by v e q) in omega arith
 
 pub id-fits : (v : Verdict) (p : Pool) (id place : ℕ) → verdict v ≡ idCheck p id place → v ≡ Fine → p .b ≤ 256 → Fits w64 (id - 1)
 id-fits v p id place e q h = record { fits = omega (arith, id-below v p id place e q h) }
 
-pub ruleset indices = (guard-at, id-some, id-at, id-below, id-fits, worker-some, worker-at, begin-some, begin-at, begin-guards, begin-buffers, fire-some, fire-at, fire-guard, post-some, post-at, give-some, give-at, take-some, take-at, ask-some, ask-at)
+pub ruleset indices = (guard-at, id-some, id-below, id-fits, begin-some, begin-at, begin-guards, begin-buffers, fire-some, fire-at, fire-guard, post-some, post-at, give-some, give-at, ask-some, ask-at)

@@ -5,7 +5,7 @@ use mathlib.Core.List.{List}
 use Prim.Native.Nat.{ℕ, suc, _-_, _≤_, _<_}
 use native.Mathlib.Decide.{ℕ-discrete}
 use native.Mathlib.Omega.{arith}
-use lib.Dec.{eqb, ltb}
+use lib.Dec.{eqb}
 use lib.ListN.{length, getD}
 use lib.Seq.{set-getD}
 use borrow.Author.Tests.{ne-eqb, lt-ltb, le-ltb, not-true, not-false}
@@ -27,7 +27,6 @@ use Rattle.pool.specs.declared.Moved.{Moved}
 use Rattle.pool.specs.declared.Verdict.{Verdict}
 use Rattle.pool.specs.declared.Verdict.the-variants.{Fine, Fault}
 use Rattle.pool.specs.Answers.{Told, Check, fine, refuse, numberOf, verdict, first, answering, refused, back, afterCheck}
-use Rattle.pool.specs.Sound.{soundOf}
 use Rattle.pool.specs.Record.{stateOf, workerAt, setAt, withStates}
 use Rattle.pool.specs.Steps.{iOf, puts, ends, line32, lineOf, handCheck, lineCheck, standCheck, advanceCheck, advanceOf, handed, listAfterCheck, listAfter}
 use Rattle.pool.specs.Checks.{workerOf, workerCheck}
@@ -187,12 +186,6 @@ module _ (k : ℕ) (p : Pool) (room : ℕ) where
       )
 
 -- ---- the call, from its check and its line
-
-pub judged : (v : Verdict) (s : Bool) (p : Pool) (w : WorkerNo)
-    → verdict v ≡ unless s (refuse 2 0) (when (ltb (w .0) 1) (refuse 3 0) (when (ltb (p .w) (w .0)) (refuse 3 0) fine)) → s ≡ soundOf p
-    → verdict v ≡ workerCheck p w
-unfolding workerCheck
-judged v s p w h e = rw e at h
 
 module _ (v : Verdict) (p : Pool) (w : WorkerNo) (e : verdict v ≡ workerCheck p w) (out : List ℕ) where
   module _ (r : Refusal) (place : ℕ) (q : v ≡ Fault r place) where

@@ -2,11 +2,15 @@
 use mathlib.Core.Path.{_≡_, refl, sym, ap, _∙_}
 use Prim.Native.Nat.{ℕ}
 use mathlib.Core.Bool.{Bool, true, false}
-use Rattle.basics.specs.Pick.{unless}
+use lib.Dec.{eqb, ltb}
+use Rattle.basics.specs.Pick.{when, unless}
 use Rattle.basics.proofs.Picks.{picks}
 use Rattle.pool.specs.Sound.{soundOf}
-use Rattle.pool.specs.Checks.{soundCheck}
+use Rattle.pool.specs.Checks.{soundCheck, workerCheck, idCheck, takeCheck}
+use Rattle.pool.specs.Record.{stateOf}
 use Rattle.pool.specs.declared.Pool.{Pool}
+use Rattle.pool.specs.declared.WorkerNo.{WorkerNo}
+use Rattle.pool.specs.declared.BufferId.{BufferId}
 use Rattle.pool.specs.declared.Refusal.{Refusal}
 use Rattle.pool.specs.declared.Verdict.{Verdict}
 use Rattle.pool.specs.declared.Verdict.the-variants.{Fine, Fault}
@@ -74,6 +78,33 @@ sound-first p b = go (soundOf p)
     go : (t : Bool) → first (unless t (refuse 2 0) fine) b ≡ unless t (refuse 2 0) b
     go true = refl
     go false = refl
+
+-- the check of an id alone
+id-first : (p : Pool) (id place : ℕ) (b : Check)
+    → first (idCheck p id place) b ≡ when (ltb id 1) (refuse 9 place) (when (ltb (p .b) id) (refuse 9 place) b)
+unfolding first idCheck when
+id-first p id place b = go (ltb id 1) (ltb (p .b) id)
+  where
+    go : (t u : Bool)
+        → first (when t (refuse 9 place) (when u (refuse 9 place) fine)) b ≡ when t (refuse 9 place) (when u (refuse 9 place) b)
+    go true u = refl
+    go false true = refl
+    go false false = refl
+
+-- ---- a verdict on numbers of the record is the check of the record
+
+pub judged : (v : Verdict) (s : Bool) (p : Pool) (w : WorkerNo)
+    → verdict v ≡ unless s (refuse 2 0) (when (ltb (w .0) 1) (refuse 3 0) (when (ltb (p .w) (w .0)) (refuse 3 0) fine)) → s ≡ soundOf p
+    → verdict v ≡ workerCheck p w
+unfolding workerCheck
+judged v s p w h e = rw e at h
+
+pub take-judged : (v : Verdict) (s : Bool) (p : Pool) (b : BufferId)
+    → verdict v ≡ unless s (refuse 2 0) (when (ltb (b .0) 1) (refuse 9 0) (when (ltb (p .b) (b .0)) (refuse 9 0)
+    (unless (eqb (stateOf p (b .0)) 0) (refuse 11 0) fine))) → s ≡ soundOf p
+    → verdict v ≡ takeCheck p b
+unfolding takeCheck
+take-judged v s p b h e = rw (sound-first, id-first) (rw e at h)
 
 pub ruleset makes = (picks, same-pool)
 

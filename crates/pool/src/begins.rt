@@ -17,6 +17,7 @@ use crate::Pool;
 use crate::Refusal;
 use crate::Verdict;
 use crate::WorkerNo;
+use crate::checks::take_verdict;
 use idset::IdSet;
 
 impl Pool {
@@ -24,22 +25,20 @@ impl Pool {
         ensures { λ r. ⌜ told r ≡ hireOf self w ⌝ }
     {
         let check = self.begin_check(w);
-        match check {
-            Verdict::Fault(refusal, place) => Outcome {
+        if let Verdict::Fault(refusal, place) = check {
+            return Outcome {
                 answer: Answer::Refused(refusal, place),
                 pool: self,
-            },
-            Verdict::Fine => {
-                let k = (w.0 - 1) as usize;
-                let mut me = self.workers[k];
-                me.i = 0;
-                me.label = 2;
-                self.workers[k] = me;
-                Outcome {
-                    answer: Answer::Accepted,
-                    pool: self,
-                }
-            }
+            };
+        }
+        let k = (w.0 - 1) as usize;
+        let mut me = self.workers[k];
+        me.i = 0;
+        me.label = 2;
+        self.workers[k] = me;
+        Outcome {
+            answer: Answer::Accepted,
+            pool: self,
         }
     }
 
@@ -47,24 +46,22 @@ impl Pool {
         ensures { λ r. ⌜ told r ≡ fireOf self w g ⌝ }
     {
         let check = self.fire_check(w, g);
-        match check {
-            Verdict::Fault(refusal, place) => Outcome {
+        if let Verdict::Fault(refusal, place) = check {
+            return Outcome {
                 answer: Answer::Refused(refusal, place),
                 pool: self,
-            },
-            Verdict::Fine => {
-                let i = g.0 as usize;
-                self.employer[i] = 0;
-                let k = (w.0 - 1) as usize;
-                let mut me = self.workers[k];
-                me.i = g.0;
-                me.label = 7;
-                self.workers[k] = me;
-                Outcome {
-                    answer: Answer::Accepted,
-                    pool: self,
-                }
-            }
+            };
+        }
+        let i = g.0 as usize;
+        self.employer[i] = 0;
+        let k = (w.0 - 1) as usize;
+        let mut me = self.workers[k];
+        me.i = g.0;
+        me.label = 7;
+        self.workers[k] = me;
+        Outcome {
+            answer: Answer::Accepted,
+            pool: self,
         }
     }
 
@@ -73,23 +70,21 @@ impl Pool {
         ensures { λ r. ⌜ told r ≡ postOf self w g b ⌝ }
     {
         let check = self.post_check(w, g, b);
-        match check {
-            Verdict::Fault(refusal, place) => Outcome {
+        if let Verdict::Fault(refusal, place) = check {
+            return Outcome {
                 answer: Answer::Refused(refusal, place),
                 pool: self,
-            },
-            Verdict::Fine => {
-                let k = (w.0 - 1) as usize;
-                let mut me = self.workers[k];
-                me.i = g.0;
-                me.v = b.0;
-                me.label = 9;
-                self.workers[k] = me;
-                Outcome {
-                    answer: Answer::Accepted,
-                    pool: self,
-                }
-            }
+            };
+        }
+        let k = (w.0 - 1) as usize;
+        let mut me = self.workers[k];
+        me.i = g.0;
+        me.v = b.0;
+        me.label = 9;
+        self.workers[k] = me;
+        Outcome {
+            answer: Answer::Accepted,
+            pool: self,
         }
     }
 
@@ -98,47 +93,44 @@ impl Pool {
         ensures { λ r. ⌜ told r ≡ giveUpOf self w (now (ids .entry)) ⌝ }
     {
         let check = self.give_up_check(w, ids);
-        match check {
-            Verdict::Fault(refusal, place) => Outcome {
+        if let Verdict::Fault(refusal, place) = check {
+            return Outcome {
                 answer: Answer::Refused(refusal, place),
                 pool: self,
-            },
-            Verdict::Fine => {
-                let old = self.states;
-                let states = leaving(old, ids);
-                self.states = states;
-                let set = collected(ids);
-                let k = (w.0 - 1) as usize;
-                self.sets[k] = set;
-                let mut me = self.workers[k];
-                me.i = 0;
-                me.label = 12;
-                self.workers[k] = me;
-                Outcome {
-                    answer: Answer::Accepted,
-                    pool: self,
-                }
-            }
+            };
+        }
+        let old = self.states;
+        let states = leaving(old, ids);
+        self.states = states;
+        let set = collected(ids);
+        let k = (w.0 - 1) as usize;
+        self.sets[k] = set;
+        let mut me = self.workers[k];
+        me.i = 0;
+        me.label = 12;
+        self.workers[k] = me;
+        Outcome {
+            answer: Answer::Accepted,
+            pool: self,
         }
     }
 
     pub fn take(mut self, b: BufferId) -> Outcome
         ensures { λ r. ⌜ told r ≡ takeOf self b ⌝ }
     {
-        let check = self.take_check(b);
-        match check {
-            Verdict::Fault(refusal, place) => Outcome {
+        let sound = self.sound();
+        let check = take_verdict(sound, self.b, &self.states, b);
+        if let Verdict::Fault(refusal, place) = check {
+            return Outcome {
                 answer: Answer::Refused(refusal, place),
                 pool: self,
-            },
-            Verdict::Fine => {
-                let at = (b.0 - 1) as usize;
-                self.states[at] = 1;
-                Outcome {
-                    answer: Answer::Accepted,
-                    pool: self,
-                }
-            }
+            };
+        }
+        let at = (b.0 - 1) as usize;
+        self.states[at] = 1;
+        Outcome {
+            answer: Answer::Accepted,
+            pool: self,
         }
     }
 
@@ -146,24 +138,22 @@ impl Pool {
         ensures { λ r. ⌜ told r ≡ askOf self w b ⌝ }
     {
         let check = self.ask_check(w, b);
-        match check {
-            Verdict::Fault(refusal, place) => Outcome {
+        if let Verdict::Fault(refusal, place) = check {
+            return Outcome {
                 answer: Answer::Refused(refusal, place),
                 pool: self,
-            },
-            Verdict::Fine => {
-                let at = (b.0 - 1) as usize;
-                if self.states[at] == 1 {
-                    Outcome {
-                        answer: Answer::Yes,
-                        pool: self,
-                    }
-                } else {
-                    Outcome {
-                        answer: Answer::No,
-                        pool: self,
-                    }
-                }
+            };
+        }
+        let at = (b.0 - 1) as usize;
+        if self.states[at] == 1 {
+            Outcome {
+                answer: Answer::Yes,
+                pool: self,
+            }
+        } else {
+            Outcome {
+                answer: Answer::No,
+                pool: self,
             }
         }
     }

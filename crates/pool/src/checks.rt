@@ -2,11 +2,12 @@
 ghost use mathlib.Core.Path.{_≡_};
 ghost use Rattle.basics.specs.Pick.{when, unless};
 ghost use Rattle.pool.specs.Answers.{verdict, fine, refuse};
-ghost use Prim.Native.Nat.{_≤_, _<_};
-ghost use lib.Dec.{ltb};
+ghost use mathlib.Core.Bool.{true};
+ghost use Prim.Native.Nat.{_≤_, _<_, _-_};
+ghost use lib.Dec.{eqb, ltb};
 ghost use lib.ListN.{length, getD};
 ghost use Rattle.basics.specs.Among.{amongFirst};
-ghost use Rattle.pool.specs.Checks.{workerCheck, beginCheck, guardCheck, idCheck, fireCheck, postCheck, entryCheck, listCheck, giveUpCheck, takeCheck, askCheck};
+ghost use Rattle.pool.specs.Checks.{beginCheck, guardCheck, idCheck, fireCheck, postCheck, entryCheck, listCheck, giveUpCheck, askCheck};
 use crate::BufferId;
 use crate::GuardNo;
 use crate::Pool;
@@ -32,10 +33,33 @@ pub fn worker_verdict(sound: bool, count: u32, w: WorkerNo) -> Verdict
     Verdict::Fine
 }
 
+// 2, 9, 11, from whether the record is sound, how many buffers it has and their states.
+pub fn take_verdict(sound: bool, count: u32, states: &[u8; 256], b: BufferId) -> Verdict
+    requires { ⌜ (sound ≡ true → count ≤ 256) ⌝ }
+    ensures { λ r. ⌜ verdict r ≡ unless sound (refuse 2 0) (when (ltb (b .0) 1) (refuse 9 0) (when (ltb count (b .0)) (refuse 9 0) (unless (eqb (getD (now (states .entry)) (b .0 - 1) 0) 0) (refuse 11 0) fine))) ⌝ }
+{
+    if !sound {
+        return Verdict::Fault(Refusal::NotSound, 0);
+    }
+    let id = b.0;
+    if id < 1 {
+        return Verdict::Fault(Refusal::NoSuchBuffer, 0);
+    }
+    if count < id {
+        return Verdict::Fault(Refusal::NoSuchBuffer, 0);
+    }
+    let at = (id - 1) as usize;
+    if states[at] == 0 {
+        Verdict::Fine
+    } else {
+        Verdict::Fault(Refusal::BufferInWrongState, 0)
+    }
+}
+
 impl Pool {
-    // 2, 3.
-    pub(crate) fn worker_check(self, w: WorkerNo) -> Verdict
-        ensures { λ r. ⌜ verdict r ≡ workerCheck self w ⌝ }
+    // 2, 3, 4.
+    pub(crate) fn begin_check(self, w: WorkerNo) -> Verdict
+        ensures { λ r. ⌜ verdict r ≡ beginCheck self w ⌝ }
     {
         let workers = self.workers;
         let sets = self.sets;
@@ -53,14 +77,7 @@ impl Pool {
             workers,
             sets,
         );
-        worker_verdict(sound, self.w, w)
-    }
-
-    // 2, 3, 4.
-    pub(crate) fn begin_check(self, w: WorkerNo) -> Verdict
-        ensures { λ r. ⌜ verdict r ≡ beginCheck self w ⌝ }
-    {
-        let check = self.worker_check(w);
+        let check = worker_verdict(sound, self.w, w);
         match check {
             Verdict::Fault(refusal, place) => Verdict::Fault(refusal, place),
             Verdict::Fine => {
@@ -143,27 +160,6 @@ impl Pool {
                     } else {
                         Verdict::Fine
                     },
-                }
-            }
-        }
-    }
-
-    pub(crate) fn take_check(self, b: BufferId) -> Verdict
-        ensures { λ r. ⌜ verdict r ≡ takeCheck self b ⌝ }
-    {
-        let sound = self.sound();
-        if !sound {
-            return Verdict::Fault(Refusal::NotSound, 0);
-        }
-        let known = self.id_check(b.0, 0);
-        match known {
-            Verdict::Fault(refusal, place) => Verdict::Fault(refusal, place),
-            Verdict::Fine => {
-                let at = (b.0 - 1) as usize;
-                if self.states[at] == 0 {
-                    Verdict::Fine
-                } else {
-                    Verdict::Fault(Refusal::BufferInWrongState, 0)
                 }
             }
         }

@@ -12,6 +12,7 @@ use crate::Pool;
 use crate::Refusal;
 use crate::Verdict;
 use crate::WorkerNo;
+use crate::checks::worker_verdict;
 
 // How many states are leaving. Every entry is asked and none left early, so that it runs as vector code.
 fn count_leaving(xs: &[u8; 256]) -> u32
@@ -29,7 +30,8 @@ impl Pool {
     pub fn set_size(self, w: WorkerNo) -> Answer
         ensures { λ r. ⌜ said r ≡ setSizeOf self w ⌝ }
     {
-        let check = self.worker_check(w);
+        let sound = self.sound();
+        let check = worker_verdict(sound, self.w, w);
         match check {
             Verdict::Fault(refusal, place) => Answer::Refused(refusal, place),
             Verdict::Fine => {

@@ -9,7 +9,8 @@ use Rattle.pool.specs.declared.Pool.{Pool}
 use Rattle.pool.specs.declared.WorkerNo.{WorkerNo}
 use Rattle.pool.specs.Answers.{verdict}
 use Rattle.pool.specs.Checks.{workerCheck}
-use Rattle.pool.proofs.Dispatch.{judged, stopped, stopped-list, some, entry-below, idle-stops, here-stands, i-least, line-goes, hand-goes}
+use Rattle.pool.proofs.Dispatch.{stopped, stopped-list, some, entry-below, idle-stops, here-stands, i-least, line-goes, hand-goes}
+use Rattle.pool.proofs.Told.{judged}
 use Rattle.pool.proofs.Pool.advance.Statement.{statement}
 use Rattle.pool.proofs.Pool.advance.Tie as tie
 

@@ -42,10 +42,10 @@ ask-spec =
     (tie.spec
     ask-check-requires
     enum-known-check
+    returns
     enum-told
     sub-at
     cast-at
     element-copy-out-if1
-    returns
     returns-2
     returns-3)

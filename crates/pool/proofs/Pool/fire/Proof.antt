@@ -56,6 +56,7 @@ fire-spec =
     (tie.spec
     fire-check-requires
     enum-known-check
+    returns
     enum-told
     cast-i
     mul-self
@@ -66,5 +67,4 @@ fire-spec =
     element-copy-out-me
     mul-me-2
     element-set-from-me
-    returns
     returns-2)

@@ -60,6 +60,7 @@ give-up-spec =
     (tie.spec
     give-up-check-requires
     enum-known-check
+    returns
     enum-told
     leaving-requires
     collected-requires
@@ -71,5 +72,4 @@ give-up-spec =
     element-copy-out-me
     mul-me-2
     element-set-from-me
-    returns
     returns-2)

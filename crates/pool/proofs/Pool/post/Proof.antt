@@ -47,6 +47,7 @@ post-spec =
     (tie.spec
     post-check-requires
     enum-known-check
+    returns
     enum-told
     sub-k
     cast-k
@@ -54,5 +55,4 @@ post-spec =
     element-copy-out-me
     mul-me-2
     element-set-from-me
-    returns
     returns-2)

@@ -1,0 +1,33 @@
+-- `pool::checks::take_verdict` meets its contract. Assumes nothing.
+use borrow.Author.Needs.{needs}
+use borrow.Author.Tests.{not-false}
+use native.Mathlib.Omega.{arith}
+use Rattle.pool.proofs.Told.{checks}
+use Rattle.pool.proofs.checks.take_verdict.Statement.{statement}
+use Rattle.pool.proofs.checks.take_verdict.Tie as tie
+
+returns : tie.Need-returns
+returns c = search checks depth 12
+
+returns-2 : tie.Need-returns-2
+returns-2 c = search checks depth 12
+
+returns-3 : tie.Need-returns-3
+returns-3 c = search checks depth 12
+
+cast-at : tie.Need-cast-at
+cast-at c = search needs
+
+element-copy-out-if4 : tie.Need-element-copy-out-if4
+element-copy-out-if4 c = omega (arith, c .before .before .before .pre (not-false _ (c .before .before .if1 .left)))
+
+returns-4 : tie.Need-returns-4
+returns-4 c = search checks depth 12
+
+returns-5 : tie.Need-returns-5
+returns-5 c = search checks depth 12
+
+pub take-verdict-spec : {M : Type 1} → statement M
+take-verdict-spec =
+    tie.close
+    (tie.spec returns returns-2 returns-3 cast-at element-copy-out-if4 returns-4 returns-5)
