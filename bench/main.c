@@ -110,6 +110,7 @@ int main(void) {
         {"16 buffers", 1, TWO(hand_back), .a = 16},
         {"200 buffers", 1, TWO(hand_back), .a = 200},
     };
+    const struct row handed = {"one entry stored", 1, ONE(handed)};
     heading("what a call costs, W = 8, G = 32, B = 256");
     for (size_t k = 0; k < sizeof calls / sizeof *calls; k++) measure(&calls[k]);
     heading("a give-up of nothing with its advances, B = 256");
@@ -118,6 +119,8 @@ int main(void) {
     for (size_t k = 0; k < sizeof buffers / sizeof *buffers; k++) measure(&buffers[k]);
     heading("the advance at label 32, by the size of the set");
     for (size_t k = 0; k < sizeof sets / sizeof *sets; k++) measure(&sets[k]);
+    heading("the record handed in and out, and nothing else done");
+    measure(&handed);
     printf("\nBoth sides gave the same answers and ended with the same records.\n");
     return 0;
 }

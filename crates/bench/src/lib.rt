@@ -4,5 +4,6 @@ mod buffers;
 mod checksum;
 mod contention;
 mod guards;
+mod handed;
 mod refused;
 mod staff;

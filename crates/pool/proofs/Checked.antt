@@ -167,7 +167,7 @@ gives-up p w ids h = let a = first-both (beginCheck p w) _ h in record { begun =
 
 -- ---- the ranges that the code's indices want, by what the check's code answered: `search indices`
 
-index : {p : Pool} {w : WorkerNo} → Named p w → w .0 - 1 < 8
+pub index : {p : Pool} {w : WorkerNo} → Named p w → w .0 - 1 < 8
 index n = omega (arith, n)
 
 slot-index : {p : Pool} {w : WorkerNo} {g : GuardNo} → Named p w → Employed p w g → g .0 < 32
@@ -177,12 +177,6 @@ state-index : {p : Pool} {id : ℕ} → Sizes p → Buffer p id → id - 1 < 256
 state-index s b = omega (arith, s, b)
 
 module _ (v : Verdict) (p : Pool) (q : v ≡ Fine) where
-  pub worker-some : (w : WorkerNo) → verdict v ≡ workerCheck p w → 1 ≤ w .0
-  worker-some w e = named p w (fine-by v e q) .some
-
-  pub worker-at : (w : WorkerNo) → verdict v ≡ workerCheck p w → w .0 - 1 < 8
-  worker-at w e = index (named p w (fine-by v e q))
-
   pub begin-some : (w : WorkerNo) → verdict v ≡ beginCheck p w → 1 ≤ w .0
   begin-some w e = begun p w (fine-by v e q) .worker .some
 

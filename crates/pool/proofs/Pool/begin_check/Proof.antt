@@ -1,10 +1,25 @@
 -- `pool::Pool::begin_check` meets its contract. Assumes nothing.
 use Rattle.pool.specs.Checks.{beginCheck}
 use Rattle.pool.proofs.Told.{checks, judged}
-use Rattle.pool.proofs.Checked.{worker-some, worker-at}
+use Rattle.pool.proofs.Checked.{Named, named-by, index}
+use Rattle.pool.specs.declared.Pool.{Pool}
+use Rattle.pool.specs.declared.WorkerNo.{WorkerNo}
 use borrow.Author.Needs.{needs}
 use Rattle.pool.proofs.Pool.begin_check.Statement.{statement}
 use Rattle.pool.proofs.Pool.begin_check.Tie as tie
+
+abbrev pool : tie.After-worker-verdict → Pool
+pool c = c .before .before .before .before .before .before .before .before .before .before .before .args .t1
+
+abbrev worker : tie.After-worker-verdict → WorkerNo
+worker c = c .before .before .before .before .before .before .before .before .before .before .before .args .w
+
+known : (c : tie.After-enum-told) → Named (pool (c .before .before)) (worker (c .before .before))
+known c =
+    let v = c .before .before in
+    named-by (v .worker-verdict .result) (pool v) (worker v)
+    (judged (v .worker-verdict .result) (v .before .parts-sound .result) (pool v) (worker v) (v .worker-verdict .ensures) (v .before .parts-sound .ensures))
+    (c .enum-told .given .1)
 
 parts-sound-requires : tie.Need-parts-sound-requires
 parts-sound-requires c κs = search needs
@@ -19,7 +34,7 @@ enum-told : tie.Need-enum-told
 enum-told c = search needs
 
 sub-k : tie.Need-sub-k
-sub-k c = let v = c .before .before .before in worker-some _ _ (c .before .enum-told .given .1) _ (judged _ _ _ _ (v .worker-verdict .ensures) (v .before .parts-sound .ensures))
+sub-k c = known (c .before) .some
 
 cast-k : tie.Need-cast-k
 cast-k c = search needs
@@ -28,7 +43,7 @@ mul-me : tie.Need-mul-me
 mul-me c = search needs
 
 element-copy-out-me : tie.Need-element-copy-out-me
-element-copy-out-me c = let v = c .before .before .before in worker-at _ _ (c .before .enum-told .given .1) _ (judged _ _ _ _ (v .worker-verdict .ensures) (v .before .parts-sound .ensures))
+element-copy-out-me c = index (known (c .before))
 
 returns : tie.Need-returns
 unfolding beginCheck

@@ -1,10 +1,25 @@
 -- `pool::Pool::set_size` meets its contract. Assumes nothing.
 use Rattle.pool.specs.Questions.{setSizeOf}
 use Rattle.pool.proofs.Told.{answers, judged}
-use Rattle.pool.proofs.Checked.{worker-some, worker-at}
+use Rattle.pool.proofs.Checked.{Named, named-by, index}
+use Rattle.pool.specs.declared.Pool.{Pool}
+use Rattle.pool.specs.declared.WorkerNo.{WorkerNo}
 use borrow.Author.Needs.{needs}
 use Rattle.pool.proofs.Pool.set_size.Statement.{statement}
 use Rattle.pool.proofs.Pool.set_size.Tie as tie
+
+abbrev pool : tie.After-worker-verdict → Pool
+pool c = c .before .before .args .t1
+
+abbrev worker : tie.After-worker-verdict → WorkerNo
+worker c = c .before .before .args .w
+
+known : (c : tie.After-enum-told) → Named (pool (c .before .before)) (worker (c .before .before))
+known c =
+    let v = c .before .before in
+    named-by (v .worker-verdict .result) (pool v) (worker v)
+    (judged (v .worker-verdict .result) (v .before .sound .result) (pool v) (worker v) (v .worker-verdict .ensures) (v .before .sound .ensures))
+    (c .enum-told .given .1)
 
 sound-requires : tie.Need-sound-requires
 sound-requires c κs = search needs
@@ -19,7 +34,7 @@ enum-told : tie.Need-enum-told
 enum-told c = search needs
 
 sub-k : tie.Need-sub-k
-sub-k c = let v = c .before .before .before in worker-some _ _ (c .before .enum-told .given .1) _ (judged _ _ _ _ (v .worker-verdict .ensures) (v .before .sound .ensures))
+sub-k c = known (c .before) .some
 
 cast-k : tie.Need-cast-k
 cast-k c = search needs
@@ -28,7 +43,7 @@ mul-s : tie.Need-mul-s
 mul-s c = search needs
 
 element-copy-out-s : tie.Need-element-copy-out-s
-element-copy-out-s c = let v = c .before .before .before in worker-at _ _ (c .before .enum-told .given .1) _ (judged _ _ _ _ (v .worker-verdict .ensures) (v .before .sound .ensures))
+element-copy-out-s c = index (known (c .before))
 
 size-requires : tie.Need-size-requires
 size-requires c κs = search needs

@@ -2,9 +2,24 @@
 use Rattle.pool.specs.Begins.{takeOf}
 use Rattle.pool.proofs.Told.{begins, take-judged}
 use Rattle.pool.proofs.Checked.{buffers-if, take-some, take-at}
+use Rattle.pool.specs.declared.Pool.{Pool}
+use Rattle.pool.specs.declared.BufferId.{BufferId}
+use mathlib.Core.Path.{_≡_}
+use Rattle.pool.specs.Answers.{verdict}
+use Rattle.pool.specs.Checks.{takeCheck}
 use borrow.Author.Needs.{needs}
 use Rattle.pool.proofs.Pool.take.Statement.{statement}
 use Rattle.pool.proofs.Pool.take.Tie as tie
+
+abbrev pool : tie.After-take-verdict → Pool
+pool c = c .before .before .before .before .args .t1
+
+abbrev buffer : tie.After-take-verdict → BufferId
+buffer c = c .before .before .before .before .args .b
+
+checked : (c : tie.After-take-verdict) → verdict (c .take-verdict .result) ≡ takeCheck (pool c) (buffer c)
+checked c =
+    take-judged (c .take-verdict .result) (c .before .before .before .sound .result) (pool c) (buffer c) (c .take-verdict .ensures) (c .before .before .before .sound .ensures)
 
 sound-requires : tie.Need-sound-requires
 sound-requires c κs = search needs
@@ -23,13 +38,13 @@ enum-told : tie.Need-enum-told
 enum-told c = search needs
 
 sub-at : tie.Need-sub-at
-sub-at c = let v = c .before .before .before in take-some _ _ (c .before .enum-told .given .1) _ (take-judged _ _ _ _ (v .take-verdict .ensures) (v .before .before .before .sound .ensures))
+sub-at c = let v = c .before .before .before in take-some (v .take-verdict .result) (pool v) (c .before .enum-told .given .1) (buffer v) (checked v)
 
 cast-at : tie.Need-cast-at
 cast-at c = search needs
 
 element-write-self : tie.Need-element-write-self
-element-write-self c = let v = c .before .before .before in take-at _ _ (c .before .enum-told .given .1) _ (take-judged _ _ _ _ (v .take-verdict .ensures) (v .before .before .before .sound .ensures))
+element-write-self c = let v = c .before .before .before in take-at (v .take-verdict .result) (pool v) (c .before .enum-told .given .1) (buffer v) (checked v)
 
 returns-2 : tie.Need-returns-2
 unfolding takeOf
