@@ -82,15 +82,20 @@ static bool worker_fits(const struct worker *x, uint32_t g, uint32_t b) {
 
 static bool idle(const struct worker *x) { return (x->label | x->i | x->v | x->h.id | x->h.version | x->attempts | x->max) == 0; }
 
+// The marks of all sets go into one, which is asked once.
 static bool workers_fit(const struct pool *p) {
-    const struct id_set every = above(0), beyond = above(p->b);
+    const struct id_set beyond = above(p->b);
+    struct id_set all = {{0}};
     bool ok = true;
-    for (uint32_t k = 0; k < WORKERS; k++) {
-        const struct worker *x = &p->workers[k];
-        bool unused = idle(x), empty = shared(&p->sets[k], &every) == 0;
-        ok &= worker_fits(x, p->g, p->b);
-        ok &= shared(&p->sets[k], &beyond) == 0;
-        ok &= (k < p->w) | (unused & empty);
+    for (size_t k = 0; k < WORKERS; k++) {
+        ok &= worker_fits(&p->workers[k], p->g, p->b);
+        for (size_t i = 0; i < BUFFERS / 64; i++) all.words[i] |= p->sets[k].words[i];
+    }
+    ok &= shared(&all, &beyond) == 0;
+    for (size_t k = p->w; k < WORKERS; k++) {
+        const struct id_set *s = &p->sets[k];
+        ok &= idle(&p->workers[k]);
+        ok &= shared(s, s) == 0;
     }
     return ok;
 }

@@ -64,6 +64,17 @@ pub formed-of : (s : IdSet) (us : List Val) → length (map (λ (v : ℕ). v) (s
     → shadow (each ℕ (UInt w64 .own) (map (λ (v : ℕ). v) (s .words)) us) → Formed s
 formed-of s us n f = record { four = length-unmapped ℕ (s .words) 4 n; fit = λ i. elem-fits-field w64 w64 (s .words) us i f tt .fits }
 
+-- four words, as the code builds a set
+pub formed-words : {a b c d : ℕ} → a < 2 ^ 64 → b < 2 ^ 64 → c < 2 ^ 64 → d < 2 ^ 64 → Formed (record { words = a ∷ b ∷ c ∷ d ∷ [] })
+formed-words {a} {b} {c} {d} ha hb hc hd = record { four = refl; fit = fit }
+  where
+    fit : (i : ℕ) → getD (a ∷ b ∷ c ∷ d ∷ []) i 0 < 2 ^ 64
+    fit zero = ha
+    fit (suc zero) = hb
+    fit (suc (suc zero)) = hc
+    fit (suc (suc (suc zero))) = hd
+    fit (suc (suc (suc (suc i)))) = lit< tt
+
 -- two such sets with the same members are equal
 pub member-ext : {s t : IdSet} → Formed s → Formed t → ((b : ℕ) → memberOf s b ≡ memberOf t b) → s ≡ t
 member-ext {s} {t} hs ht e =
@@ -85,14 +96,8 @@ word-at p (suc (suc (suc (suc i)))) h = absurd (omega arith)
 
 pub setOf-formed : (p : ℕ → Bool) → Formed (setOf p)
 unfolding setOf wordOf
-setOf-formed p = record { four = refl; fit = fit }
-  where
-    fit : (i : ℕ) → getD (setOf p .words) i 0 < 2 ^ 64
-    fit zero = pack-lt (λ k. p (suc (0 + k))) 64
-    fit (suc zero) = pack-lt (λ k. p (suc (64 + k))) 64
-    fit (suc (suc zero)) = pack-lt (λ k. p (suc (128 + k))) 64
-    fit (suc (suc (suc zero))) = pack-lt (λ k. p (suc (192 + k))) 64
-    fit (suc (suc (suc (suc i)))) = lit< tt
+setOf-formed p =
+    formed-words (pack-lt (λ k. p (suc (0 + k))) 64) (pack-lt (λ k. p (suc (64 + k))) 64) (pack-lt (λ k. p (suc (128 + k))) 64) (pack-lt (λ k. p (suc (192 + k))) 64)
 
 pub member-setOf : (p : ℕ → Bool) (b : ℕ) → memberOf (setOf p) b ≡ (isId b && p b)
 unfolding memberOf wordOf
@@ -116,6 +121,10 @@ setOf-cong {p} {q} e =
     member-ext (setOf-formed p) (setOf-formed q) (λ b. member-setOf p b ∙ and-cong (isId b) (e b) ∙ sym (member-setOf q b))
 
 -- ---- the laws of `withOf` and `withoutOf`
+
+pub none-formed : Formed noIds
+unfolding noIds
+none-formed = setOf-formed (λ b. false)
 
 pub member-none : (b : ℕ) → memberOf noIds b ≡ false
 unfolding noIds

@@ -1,7 +1,7 @@
 -- The laws of `withinOf`, and the test of it word by word. Assumes nothing.
 use mathlib.Core.Path.{_≡_, refl, sym, ap, ap₂, _∙_}
-use mathlib.Core.Bool.{Bool, true, false, not, _&&_, _||_}
-use Prim.Native.Nat.{ℕ, suc, _+_, _-_, _*_, _/_, _^_, _≤_, _<_}
+use mathlib.Core.Bool.{Bool, true, false, not, _&&_, _||_, false≢true}
+use Prim.Native.Nat.{ℕ, suc, _+_, _-_, _*_, _/_, _^_, _≤_, _<_, max}
 use native.Mathlib.Nat.{zero-add, div-one, div-eq-of-lt, le-div-iff-mul-le, lt-of-lt-of-le}
 use native.Mathlib.Omega.{arith}
 use lib.Dec.{eqb, leb, ltb, lit<}
@@ -9,12 +9,12 @@ use lib.ListN.{getD}
 use lib.Pow.{pow-pos, pow-mono, shr-le}
 use borrow.Author.Tests.{le-leb, leb-true, lt-ltb, ltb-true, ltb-false, eq-eqb, ne-eqb, eqb-true}
 use Rattle.basics.specs.Below.{allBelow}
-use Rattle.basics.proofs.Truth.{and-right, or-cases, both, by-order, is-false}
+use Rattle.basics.proofs.Truth.{and-left, and-right, or-cases, reorder, both, by-order, is-false}
 use Rattle.basics.proofs.All.{all-at, all-of, all-cong, all-split}
 use Rattle.idset.specs.declared.IdSet.{IdSet}
-use Rattle.idset.specs.Members.{digit, isId, memberOf, withOf, withoutOf, withinOf}
+use Rattle.idset.specs.Members.{digit, isId, memberOf, noIds, withOf, withoutOf, withinOf, largerAt, largerOf}
 use Rattle.idset.proofs.Digits.{digits-ext, digit-shr, digit-none, digit-short}
-use Rattle.idset.proofs.Members.{Formed, id-low, id-high, member-id, member-at, member-with, member-without}
+use Rattle.idset.proofs.Members.{Formed, formed-words, id-low, id-high, member-id, member-at, member-none, member-with, member-without}
 use Rattle.idset.proofs.Size.{pred-id}
 
 -- ---- every member is at most a
@@ -35,6 +35,9 @@ within-all s a f = all-of 256 (λ k. not (memberOf s (suc k)) || leb (suc k) a) 
     go : (b : ℕ) (t : Bool) → memberOf s b ≡ t → (not t || leb b a) ≡ true
     go b true e = le-leb b a (f b e)
     go b false e = refl
+
+pub none-within : (a : ℕ) → withinOf noIds a ≡ true
+none-within a = within-all noIds a (λ b m. absurd (false≢true (sym (member-none b) ∙ m)))
 
 pub with-within : (s : IdSet) (a most : ℕ) → withinOf s most ≡ true → a ≤ most → withinOf (withOf s a) most ≡ true
 with-within s a most h l =
@@ -119,3 +122,26 @@ within-words s a h =
     let w₂ = word-within s 2 a h (lit< tt) in
     let w₃ = word-within s 3 a h (lit< tt) in
     ap₂ _&&_ (ap₂ _&&_ (ap₂ _&&_ w₀ w₁ ∙ sym (all-split 64 64 f)) w₂ ∙ sym (all-split 128 64 f)) w₃ ∙ sym (all-split 192 64 f)
+
+-- ---- the larger of two words is clear where both are
+
+larger-clear : (x y m : ℕ) → ltb (max x y) m ≡ (ltb x m && ltb y m)
+larger-clear x y m =
+    both (ltb (max x y) m) (ltb x m && ltb y m)
+    (λ e. let h = ltb-true (max x y) m e in ap₂ _&&_ (lt-ltb x m (omega arith)) (lt-ltb y m (omega arith)))
+    (λ e.
+    let hx = ltb-true x m (and-left (ltb x m) (ltb y m) e) in
+    let hy = ltb-true y m (and-right (ltb x m) (ltb y m) e) in
+    lt-ltb (max x y) m (omega arith))
+
+pub larger-formed : {s t : IdSet} → Formed s → Formed t → Formed (largerOf s t)
+unfolding largerOf
+larger-formed {s} {t} hs ht = formed-words (fits 0) (fits 1) (fits 2) (fits 3)
+  where
+    fits : (i : ℕ) → largerAt s t i < 2 ^ 64
+    fits i = omega (arith, hs .fit i, ht .fit i)
+
+pub within-larger : (s t : IdSet) (a : ℕ) → Formed s → Formed t → withinOf (largerOf s t) a ≡ (withinOf s a && withinOf t a)
+unfolding largerOf
+within-larger s t a hs ht =
+    sym (within-words (largerOf s t) a (larger-formed hs ht)) ∙ rw (← within-words s a hs, ← within-words t a ht) (simp (larger-clear, reorder))

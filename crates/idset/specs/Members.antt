@@ -1,7 +1,7 @@
 -- Membership of an id in a set, and the sets, counts and searches that the contracts state by it.
 use mathlib.Core.Bool.{Bool, false, not, _&&_, _||_}
 use mathlib.Core.List.{List, [], _∷_}
-use Prim.Native.Nat.{ℕ, zero, suc, _+_, _-_, _*_, _/_, _%_, _^_}
+use Prim.Native.Nat.{ℕ, zero, suc, _+_, _-_, _*_, _/_, _%_, _^_, max}
 use lib.ListN.{getD}
 use lib.Dec.{eqb, leb}
 use Rattle.basics.specs.Pick.{when}
@@ -44,6 +44,14 @@ withOf s a = setOf (λ b. eqb b a || memberOf s b)
 
 unfoldable pub withoutOf : IdSet → ℕ → IdSet
 withoutOf s a = setOf (λ b. not (eqb b a) && memberOf s b)
+
+-- the larger of the words at i
+abbrev pub largerAt : IdSet → IdSet → ℕ → ℕ
+largerAt s t i = max (getD (s .words) i 0) (getD (t .words) i 0)
+
+-- word by word the larger of the two: it is within a limit exactly when both are
+unfoldable pub largerOf : IdSet → IdSet → IdSet
+largerOf s t = record { words = largerAt s t 0 ∷ largerAt s t 1 ∷ largerAt s t 2 ∷ largerAt s t 3 ∷ [] }
 
 -- ---- questions
 

@@ -1,9 +1,10 @@
 // A set of buffer ids 1 to 256 as four words of marks: bit (id - 1) % 64 of word (id - 1) / 64 is set exactly when id is a member.
 // The contracts say each result by membership: `memberOf s b`, and `setOf p`, the set of the ids that p holds of.
+// Only `larger` goes by words.
 ghost use mathlib.Core.Path.{_≡_};
-ghost use Prim.Native.Nat.{_-_, _^_};
+ghost use Prim.Native.Nat.{_-_, _^_, max};
 ghost use lib.Dec.{ltb};
-ghost use Rattle.idset.specs.Members.{memberOf, noIds, withOf, withoutOf, sizeOf, nextOf, withinOf};
+ghost use Rattle.idset.specs.Members.{memberOf, noIds, withOf, withoutOf, sizeOf, nextOf, withinOf, largerOf};
 
 pub struct IdSet {
     pub words: [u64; 4],
@@ -19,6 +20,12 @@ fn clear_above(word: u64, base: u32, limit: u32) -> bool
     }
     let room = limit - base;
     if 64 <= room { true } else { word >> room == 0 }
+}
+
+fn larger_word(a: u64, b: u64) -> u64
+    ensures { λ r. ⌜ r ≡ max a b ⌝ }
+{
+    if a < b { b } else { a }
 }
 
 impl IdSet {
@@ -122,5 +129,18 @@ impl IdSet {
         let c = clear_above(self.words[2], 128, limit);
         let d = clear_above(self.words[3], 192, limit);
         a & b & c & d
+    }
+
+    // Word by word the larger of the two: it is within a limit exactly when both are.
+    pub fn larger(self, other: IdSet) -> IdSet
+        ensures { λ r. ⌜ r ≡ largerOf self other ⌝ }
+    {
+        let a = larger_word(self.words[0], other.words[0]);
+        let b = larger_word(self.words[1], other.words[1]);
+        let c = larger_word(self.words[2], other.words[2]);
+        let d = larger_word(self.words[3], other.words[3]);
+        IdSet {
+            words: [a, b, c, d],
+        }
     }
 }

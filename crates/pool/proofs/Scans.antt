@@ -12,8 +12,8 @@ use Rattle.basics.proofs.Truth.{reorder}
 use Rattle.basics.proofs.All.{all-of, all-and, all-or-and, all-cong}
 use Rattle.pool.specs.declared.Pool.{Pool}
 use Rattle.pool.specs.Record.{takenAt, employerAt, postedAt, slotAt, stateOf, workerAt, setAt}
-use Rattle.pool.specs.Sound.{countsSound, guardsBeyond, buffersBeyond, workersBeyond, beyondSound, isLabel, kindsSound, workerIds, idsSound, registersIn, registersSound, soundOf}
-use Rattle.pool.specs.Scans.{most, zeroFrom, untakenFrom, workerFitsAt}
+use Rattle.pool.specs.Sound.{countsSound, zeroWorker, guardsBeyond, buffersBeyond, workersBeyond, beyondSound, isLabel, kindsSound, workerIds, idsSound, registersIn, registersSound, soundOf}
+use Rattle.pool.specs.Scans.{most, zeroFrom, untakenFrom, registersFitAt, setWithin, emptyFrom}
 
 -- ---- a scan from the count on
 
@@ -66,27 +66,34 @@ module _ (p : Pool) where
   pub states-fit : allBelow 256 (fits (p .states) (p .b)) ≡ (allBelow 256 (λ k. leb (stateOf p (suc k)) 2) && allBelow 256 (buffersBeyond p))
   states-fit = all-and 256 (most (p .states) 2) (zeroFrom (p .states) (p .b)) ∙ ap₂ _&&_ states-most buffers-beyond
 
+  abbrev idle : ℕ → Bool
+  idle k = ltb k (p .w) || zeroWorker (workerAt p k)
+
   abbrev label : ℕ → Bool
   label k = isLabel (workerAt p k .label)
 
   abbrev ids : ℕ → Bool
-  ids k = workerIds (p .b) (workerAt p k) (setAt p k)
+  ids k = leb (workerAt p k .v) (p .b) && leb (workerAt p k .h .id) (p .b)
 
   abbrev registers : ℕ → Bool
   registers k = registersIn (p .g) (workerAt p k)
 
-  workers-four : allBelow 8 (workerFitsAt (p .w) (p .g) (p .b) (p .workers) (p .sets))
-      ≡ (allBelow 8 (workersBeyond p) && allBelow 8 label && allBelow 8 ids && allBelow 8 registers)
+  workers-four : allBelow 8 (registersFitAt (p .w) (p .g) (p .b) (p .workers)) ≡ (allBelow 8 idle && allBelow 8 label && allBelow 8 ids && allBelow 8 registers)
   workers-four =
-      all-and 8 (λ k. workersBeyond p k && label k && ids k) registers
+      all-and 8 (λ k. idle k && label k && ids k) registers
       ∙ ap (λ (t : Bool). t && allBelow 8 registers)
-      (all-and 8 (λ k. workersBeyond p k && label k) ids
-      ∙ ap (λ (t : Bool). t && allBelow 8 ids) (all-and 8 (workersBeyond p) label))
+      (all-and 8 (λ k. idle k && label k) ids ∙ ap (λ (t : Bool). t && allBelow 8 ids) (all-and 8 idle label))
 
-reordered : (c t e₀ e p₀ p s₀ s v₀ b₀ b w₀ l i r : Bool)
-    → (c && t && (e && e₀) && (p && p₀) && (s && s₀) && v₀ && (b && b₀) && (w₀ && l && i && r))
-    ≡ (c && ((t && e₀ && p₀ && s₀ && v₀) && b₀ && w₀) && (e && b && l) && ((p && s) && i) && r)
-reordered c t e₀ e p₀ p s₀ s v₀ b₀ b w₀ l i r = simp reorder
+  workers-beyond : allBelow 8 (workersBeyond p) ≡ (allBelow 8 idle && allBelow 8 (emptyFrom (p .sets) (p .w)))
+  workers-beyond = all-or-and 8 (λ k. ltb k (p .w)) (λ k. zeroWorker (workerAt p k)) (setWithin (p .sets) 0)
+
+  worker-ids : allBelow 8 (λ k. workerIds (p .b) (workerAt p k) (setAt p k)) ≡ (allBelow 8 ids && allBelow 8 (setWithin (p .sets) (p .b)))
+  worker-ids = all-and 8 ids (setWithin (p .sets) (p .b))
+
+reordered : (c t e₀ e p₀ p s₀ s v₀ b₀ b w₀ l i r m m₀ : Bool)
+    → (c && t && (e && e₀) && (p && p₀) && (s && s₀) && v₀ && (b && b₀) && (w₀ && l && i && r) && (m && m₀))
+    ≡ (c && ((t && e₀ && p₀ && s₀ && v₀) && b₀ && (w₀ && m₀)) && (e && b && l) && ((p && s) && (i && m)) && r)
+reordered c t e₀ e p₀ p s₀ s v₀ b₀ b w₀ l i r m m₀ = simp reorder
 
 scanned : (p : Pool)
     → (countsSound p && allBelow 32 (untakenFrom (p .taken) (p .g))
@@ -95,10 +102,19 @@ scanned : (p : Pool)
     && (allBelow 32 (most (p .«slot_id») (p .b)) && allBelow 32 (zeroFrom (p .«slot_id») (p .g)))
     && allBelow 32 (zeroFrom (p .«slot_version») (p .g))
     && (allBelow 256 (most (p .states) 2) && allBelow 256 (zeroFrom (p .states) (p .b)))
-    && allBelow 8 (workerFitsAt (p .w) (p .g) (p .b) (p .workers) (p .sets))) ≡ soundOf p
+    && allBelow 8 (registersFitAt (p .w) (p .g) (p .b) (p .workers))
+    && (allBelow 8 (setWithin (p .sets) (p .b)) && allBelow 8 (emptyFrom (p .sets) (p .w)))) ≡ soundOf p
 unfolding soundOf beyondSound kindsSound idsSound registersSound
 scanned p =
-    rw (states-most p, buffers-beyond p, workers-four p, guards-beyond p, all-and 32 (most (p .posted) (p .b)) (most (p .«slot_id») (p .b)))
+    rw (
+      states-most p,
+      buffers-beyond p,
+      workers-four p,
+      guards-beyond p,
+      workers-beyond p,
+      worker-ids p,
+      all-and 32 (most (p .posted) (p .b)) (most (p .«slot_id») (p .b)),
+    )
     (reordered (countsSound p)
     (allBelow 32 (untakenFrom (p .taken) (p .g)))
     (allBelow 32 (zeroFrom (p .employer) (p .g)))
@@ -110,13 +126,15 @@ scanned p =
     (allBelow 32 (zeroFrom (p .«slot_version») (p .g)))
     (allBelow 256 (buffersBeyond p))
     (allBelow 256 (λ k. leb (stateOf p (suc k)) 2))
-    (allBelow 8 (workersBeyond p))
+    (allBelow 8 (idle p))
     (allBelow 8 (label p))
     (allBelow 8 (ids p))
-    (allBelow 8 (registers p)))
+    (allBelow 8 (registers p))
+    (allBelow 8 (setWithin (p .sets) (p .b)))
+    (allBelow 8 (emptyFrom (p .sets) (p .w))))
 
 -- the same from what the scans answered
-module _ (p : Pool) {taken employers employer posts posted ids id versions known free workers : Bool}
+module _ (p : Pool) {taken employers employer posts posted ids id versions known free workers members empty : Bool}
     (ht : taken ≡ allBelow 32 (untakenFrom (p .taken) (p .g)))
     (hem : employers ≡ allBelow 32 (most (p .employer) (p .w)))
     (he : employer ≡ allBelow 32 (zeroFrom (p .employer) (p .g)))
@@ -127,6 +145,10 @@ module _ (p : Pool) {taken employers employer posts posted ids id versions known
     (hv : versions ≡ allBelow 32 (zeroFrom (p .«slot_version») (p .g)))
     (hsm : known ≡ allBelow 256 (most (p .states) 2))
     (hs : free ≡ allBelow 256 (zeroFrom (p .states) (p .b)))
-    (hw : workers ≡ allBelow 8 (workerFitsAt (p .w) (p .g) (p .b) (p .workers) (p .sets))) where
-  pub scanned-by : (countsSound p && taken && (employers && employer) && (posts && posted) && (ids && id) && versions && (known && free) && workers) ≡ soundOf p
-  scanned-by = rw (ht, hem, he, hpm, hp, him, hi, hv, hsm, hs, hw) (scanned p)
+    (hw : workers ≡ allBelow 8 (registersFitAt (p .w) (p .g) (p .b) (p .workers)))
+    (hmm : members ≡ allBelow 8 (setWithin (p .sets) (p .b)))
+    (hm : empty ≡ allBelow 8 (emptyFrom (p .sets) (p .w))) where
+  pub scanned-by :
+      (countsSound p && taken && (employers && employer) && (posts && posted) && (ids && id) && versions && (known && free) && workers && (members && empty))
+      ≡ soundOf p
+  scanned-by = rw (ht, hem, he, hpm, hp, him, hi, hv, hsm, hs, hw, hmm, hm) (scanned p)

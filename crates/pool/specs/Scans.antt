@@ -8,7 +8,7 @@ use Rattle.idset.specs.declared.IdSet.{IdSet}
 use Rattle.idset.specs.Members.{withinOf}
 use Rattle.worker.specs.declared.Worker.{Worker}
 use Rattle.worker.specs.Registers.{noWorker}
-use Rattle.pool.specs.Sound.{isLabel, zeroWorker, workerIds, registersIn}
+use Rattle.pool.specs.Sound.{isLabel, zeroWorker, registersIn}
 
 -- entry k is 0 beyond the count
 abbrev pub zeroFrom : List ℕ → ℕ → ℕ → Bool
@@ -22,9 +22,16 @@ most xs limit k = leb (getD xs k 0) limit
 abbrev pub untakenFrom : List Bool → ℕ → ℕ → Bool
 untakenFrom xs count k = ltb k count || not (getD xs k false)
 
--- a worker, which is zero unless it is below the count, and its set
-abbrev pub workerFits : ℕ → ℕ → Bool → Worker → IdSet → Bool
-workerFits g b used x s = (used || zeroWorker x && withinOf s 0) && isLabel (x .label) && workerIds b x s && registersIn g x
+-- a worker without its set, which is zero unless it is below the count
+abbrev pub registersFit : ℕ → ℕ → Bool → Worker → Bool
+registersFit g b used x = (used || zeroWorker x) && isLabel (x .label) && (leb (x .v) b && leb (x .h .id) b) && registersIn g x
 
-abbrev pub workerFitsAt : ℕ → ℕ → ℕ → List Worker → List IdSet → ℕ → Bool
-workerFitsAt w g b xs ss k = workerFits g b (ltb k w) (getD xs k noWorker) (getD ss k (record { words = [] }))
+abbrev pub registersFitAt : ℕ → ℕ → ℕ → List Worker → ℕ → Bool
+registersFitAt w g b xs k = registersFit g b (ltb k w) (getD xs k noWorker)
+
+-- set k is within the limit; it is empty beyond the count
+abbrev pub setWithin : List IdSet → ℕ → ℕ → Bool
+setWithin ss limit k = withinOf (getD ss k (record { words = [] })) limit
+
+abbrev pub emptyFrom : List IdSet → ℕ → ℕ → Bool
+emptyFrom ss count k = ltb k count || setWithin ss 0 k

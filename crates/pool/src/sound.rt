@@ -5,7 +5,7 @@ ghost use lib.Dec.{leb};
 ghost use Rattle.basics.specs.Below.{allBelow};
 ghost use Rattle.pool.specs.Record.{recordOf};
 ghost use Rattle.pool.specs.Sound.{isLabel, soundOf};
-ghost use Rattle.pool.specs.Scans.{most, zeroFrom, untakenFrom, workerFits, workerFitsAt};
+ghost use Rattle.pool.specs.Scans.{most, zeroFrom, untakenFrom, registersFit, registersFitAt, setWithin, emptyFrom};
 use crate::Pool;
 use idset::IdSet;
 use worker::Worker;
@@ -82,8 +82,9 @@ fn free_from(xs: &[u8; 256], count: u32) -> bool
     ok
 }
 
-fn worker_fits(x: Worker, s: IdSet, used: bool, g: u32, b: u32) -> bool
-    ensures { λ r. ⌜ r ≡ workerFits g b used x s ⌝ }
+// A worker without its set.
+fn registers_fit(x: Worker, used: bool, g: u32, b: u32) -> bool
+    ensures { λ r. ⌜ r ≡ registersFit g b used x ⌝ }
 {
     let l = x.label;
     let h = x.h;
@@ -99,22 +100,48 @@ fn worker_fits(x: Worker, s: IdSet, used: bool, g: u32, b: u32) -> bool
         & (x.max < g)
         & (x.attempts <= 3)
         & ((x.attempts <= 2) | !((l == 15) | (l == 18) | (l == 22) | (l == 25)));
-    let empty = s.within(0);
     let known = is_label(l);
-    let within = s.within(b);
-    (used | (idle & empty)) & known & (ids & within) & registers
+    (used | idle) & known & ids & registers
 }
 
-fn workers_fit(xs: [Worker; 8], ss: [IdSet; 8], w: u32, g: u32, b: u32) -> bool
-    ensures { λ r. ⌜ r ≡ allBelow 8 (workerFitsAt w g b xs ss) ⌝ }
+fn workers_fit(xs: [Worker; 8], w: u32, g: u32, b: u32) -> bool
+    ensures { λ r. ⌜ r ≡ allBelow 8 (registersFitAt w g b xs) ⌝ }
 {
     let n = w as usize;
     let mut ok = true;
     for k in 0..8usize {
         let x = xs[k];
-        let s = ss[k];
-        let fine = worker_fits(x, s, k < n, g, b);
+        let fine = registers_fit(x, k < n, g, b);
         ok = ok & fine;
+    }
+    ok
+}
+
+// Every set is within the limit: one test, of the larger words of them all.
+fn sets_within(ss: [IdSet; 8], limit: u32) -> bool
+    ensures { λ r. ⌜ r ≡ allBelow 8 (setWithin ss limit) ⌝ }
+{
+    let mut tops = IdSet::empty();
+    for k in 0..8usize {
+        let s = ss[k];
+        let next = tops.larger(s);
+        tops = next;
+    }
+    tops.within(limit)
+}
+
+// Every set is empty from the count on.
+fn empty_from(ss: [IdSet; 8], count: u32) -> bool
+    ensures { λ r. ⌜ r ≡ allBelow 8 (emptyFrom ss count) ⌝ }
+{
+    if 8 <= count {
+        return true;
+    }
+    let mut ok = true;
+    for k in (count as usize)..8usize {
+        let s = ss[k];
+        let empty = s.within(0);
+        ok = ok & empty;
     }
     ok
 }
@@ -143,8 +170,9 @@ pub(crate) fn parts_sound<'a>(
     let ids = at_most(slot_id, b) & zero_from(slot_id, g);
     let versions = zero_from(slot_version, g);
     let buffers = states_known(states) & free_from(states, b);
-    let entries = workers_fit(workers, sets, w, g, b);
-    counts & guards & employers & posts & ids & versions & buffers & entries
+    let entries = workers_fit(workers, w, g, b);
+    let members = sets_within(sets, b) & empty_from(sets, w);
+    counts & guards & employers & posts & ids & versions & buffers & entries & members
 }
 
 impl Pool {

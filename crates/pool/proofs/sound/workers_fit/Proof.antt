@@ -4,15 +4,15 @@ use Prim.Native.Nat.{_≤_, _-_}
 use mathlib.Core.Path.{_≡_}
 use Rattle.basics.specs.Below.{allBelow}
 use Rattle.basics.proofs.All.{scans, all-done}
-use Rattle.pool.specs.Scans.{workerFitsAt}
+use Rattle.pool.specs.Scans.{registersFitAt}
 use Rattle.pool.proofs.sound.workers_fit.Statement.{statement}
 use Rattle.pool.proofs.sound.workers_fit.Tie as tie
 
 abbrev Inv-loop : tie.InvT-loop
-Inv-loop w g b xs ss n ok₀ k₀ ok k = (k ≤ 8) × (ok ≡ allBelow k (workerFitsAt w g b xs ss))
+Inv-loop w g b xs n ok₀ k₀ ok k = (k ≤ 8) × (ok ≡ allBelow k (registersFitAt w g b xs))
 
 abbrev μ-loop : tie.MeasureT-loop
-μ-loop w g b xs ss n ok₀ k₀ ok k = 8 - k
+μ-loop w g b xs n ok₀ k₀ ok k = 8 - k
 
 loop-holds : tie.Need-loop-holds Inv-loop μ-loop
 loop-holds c = search (needs, scans)
@@ -23,14 +23,8 @@ mul-x c = search needs
 array-copy-out-x : tie.Need-array-copy-out-x Inv-loop μ-loop
 array-copy-out-x c = search needs
 
-mul-s : tie.Need-mul-s Inv-loop μ-loop
-mul-s c = search needs
-
-array-copy-out-s : tie.Need-array-copy-out-s Inv-loop μ-loop
-array-copy-out-s c = search needs
-
-worker-fits-requires : tie.Need-worker-fits-requires Inv-loop μ-loop
-worker-fits-requires c κs = search needs
+registers-fit-requires : tie.Need-registers-fit-requires Inv-loop μ-loop
+registers-fit-requires c κs = search needs
 
 add-k : tie.Need-add-k Inv-loop μ-loop
 add-k c = search needs
@@ -53,9 +47,7 @@ workers-fit-spec =
     loop-holds
     mul-x
     array-copy-out-x
-    mul-s
-    array-copy-out-s
-    worker-fits-requires
+    registers-fit-requires
     add-k
     loop-less
     loop-again
