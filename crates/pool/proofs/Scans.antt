@@ -134,7 +134,7 @@ scanned p =
     (allBelow 8 (emptyFrom (p .sets) (p .w))))
 
 -- the same from what the scans answered
-module _ (p : Pool) {taken employers employer posts posted ids id versions known free workers members empty : Bool}
+module _ (p : Pool) {taken employers employer posts posted ids id versions known free workers members : Bool}
     (ht : taken ≡ allBelow 32 (untakenFrom (p .taken) (p .g)))
     (hem : employers ≡ allBelow 32 (most (p .employer) (p .w)))
     (he : employer ≡ allBelow 32 (zeroFrom (p .employer) (p .g)))
@@ -146,9 +146,8 @@ module _ (p : Pool) {taken employers employer posts posted ids id versions known
     (hsm : known ≡ allBelow 256 (most (p .states) 2))
     (hs : free ≡ allBelow 256 (zeroFrom (p .states) (p .b)))
     (hw : workers ≡ allBelow 8 (registersFitAt (p .w) (p .g) (p .b) (p .workers)))
-    (hmm : members ≡ allBelow 8 (setWithin (p .sets) (p .b)))
-    (hm : empty ≡ allBelow 8 (emptyFrom (p .sets) (p .w))) where
+    (hm : members ≡ (allBelow 8 (setWithin (p .sets) (p .b)) && allBelow 8 (emptyFrom (p .sets) (p .w)))) where
   pub scanned-by :
-      (countsSound p && taken && (employers && employer) && (posts && posted) && (ids && id) && versions && (known && free) && workers && (members && empty))
+      (countsSound p && taken && (employers && employer) && (posts && posted) && (ids && id) && versions && (known && free) && workers && members)
       ≡ soundOf p
-  scanned-by = rw (ht, hem, he, hpm, hp, him, hi, hv, hsm, hs, hw, hmm, hm) (scanned p)
+  scanned-by = rw (ht, hem, he, hpm, hp, him, hi, hv, hsm, hs, hw, hm) (scanned p)

@@ -1,6 +1,7 @@
 // Whether a record is sound. Each scan asks every entry and leaves none early, so that it runs as vector code; the arrays are lent and
 // not copied.
 ghost use mathlib.Core.Path.{_≡_};
+ghost use mathlib.Core.Bool.{_&&_};
 ghost use lib.Dec.{leb};
 ghost use Rattle.basics.specs.Below.{allBelow};
 ghost use Rattle.pool.specs.Record.{recordOf};
@@ -117,9 +118,9 @@ fn workers_fit(xs: [Worker; 8], w: u32, g: u32, b: u32) -> bool
     ok
 }
 
-// Every set is within the limit: one test, of the larger words of them all.
-fn sets_within(ss: [IdSet; 8], limit: u32) -> bool
-    ensures { λ r. ⌜ r ≡ allBelow 8 (setWithin ss limit) ⌝ }
+// Every set is within the limit: one test, of the larger words of them all. From the count on each is empty.
+fn sets_fit(ss: [IdSet; 8], count: u32, limit: u32) -> bool
+    ensures { λ r. ⌜ r ≡ (allBelow 8 (setWithin ss limit) && allBelow 8 (emptyFrom ss count)) ⌝ }
 {
     let mut tops = IdSet::empty();
     for k in 0..8usize {
@@ -127,23 +128,17 @@ fn sets_within(ss: [IdSet; 8], limit: u32) -> bool
         let next = tops.larger(s);
         tops = next;
     }
-    tops.within(limit)
-}
-
-// Every set is empty from the count on.
-fn empty_from(ss: [IdSet; 8], count: u32) -> bool
-    ensures { λ r. ⌜ r ≡ allBelow 8 (emptyFrom ss count) ⌝ }
-{
+    let within = tops.within(limit);
     if 8 <= count {
-        return true;
+        return within;
     }
-    let mut ok = true;
+    let mut none = true;
     for k in (count as usize)..8usize {
         let s = ss[k];
         let empty = s.within(0);
-        ok = ok & empty;
+        none = none & empty;
     }
-    ok
+    within & none
 }
 
 // The whole test, from the record's parts, so that a call lends them and copies no record for it.
@@ -170,8 +165,8 @@ pub(crate) fn parts_sound<'a>(
     let ids = at_most(slot_id, b) & zero_from(slot_id, g);
     let versions = zero_from(slot_version, g);
     let buffers = states_known(states) & free_from(states, b);
+    let members = sets_fit(sets, w, b);
     let entries = workers_fit(workers, w, g, b);
-    let members = sets_within(sets, b) & empty_from(sets, w);
     counts & guards & employers & posts & ids & versions & buffers & entries & members
 }
 

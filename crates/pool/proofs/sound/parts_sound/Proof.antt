@@ -34,17 +34,15 @@ states-known-requires c κs = search needs
 free-from-requires : tie.Need-free-from-requires
 free-from-requires c κs = search needs
 
+sets-fit-requires : tie.Need-sets-fit-requires
+sets-fit-requires c κs = search needs
+
 workers-fit-requires : tie.Need-workers-fit-requires
 workers-fit-requires c κs = search needs
 
-sets-within-requires : tie.Need-sets-within-requires
-sets-within-requires c κs = search needs
-
-empty-from-requires : tie.Need-empty-from-requires
-empty-from-requires c κs = search needs
-
 returns : tie.Need-returns
-returns c = scanned-by _ (c .before .before .before .before .before .before .before .before .before .before .before .before .untaken-from .ensures) (c .before .before .before .before .before .before .before .before .before .before .before .at-most .ensures) (c .before .before .before .before .before .before .before .before .before .before .zero-from .ensures) (c .before .before .before .before .before .before .before .before .before .at-most2 .ensures) (c .before .before .before .before .before .before .before .before .zero-from2 .ensures) (c .before .before .before .before .before .before .before .at-most3 .ensures) (c .before .before .before .before .before .before .zero-from3 .ensures) (c .before .before .before .before .before .zero-from4 .ensures) (c .before .before .before .before .states-known .ensures) (c .before .before .before .free-from .ensures) (c .before .before .workers-fit .ensures) (c .before .sets-within .ensures) (c .empty-from .ensures)
+returns c =
+    scanned-by _ (c .before .before .before .before .before .before .before .before .before .before .before .untaken-from .ensures) (c .before .before .before .before .before .before .before .before .before .before .at-most .ensures) (c .before .before .before .before .before .before .before .before .before .zero-from .ensures) (c .before .before .before .before .before .before .before .before .at-most2 .ensures) (c .before .before .before .before .before .before .before .zero-from2 .ensures) (c .before .before .before .before .before .before .at-most3 .ensures) (c .before .before .before .before .before .zero-from3 .ensures) (c .before .before .before .before .zero-from4 .ensures) (c .before .before .before .states-known .ensures) (c .before .before .free-from .ensures) (c .workers-fit .ensures) (c .before .sets-fit .ensures)
 
 pub parts-sound-spec : {M : Type 1} → statement M
 parts-sound-spec =
@@ -60,7 +58,6 @@ parts-sound-spec =
     zero-from-requires-4
     states-known-requires
     free-from-requires
+    sets-fit-requires
     workers-fit-requires
-    sets-within-requires
-    empty-from-requires
     returns)
