@@ -1,7 +1,7 @@
 -- The members as an ascending list: those above an id, and a walk over them. Assumes nothing.
 use mathlib.Core.Path.{_≡_, refl, sym, ap, ap₂, _∙_, subst}
 use mathlib.Core.Bool.{Bool, true, false, _||_}
-use mathlib.Core.List.{List, [], _∷_}
+use mathlib.Core.List.{List, _∷_}
 use Prim.Native.Nat.{ℕ, zero, suc, _+_, _-_, _*_, _≤_, _<_, suc-le-suc}
 use native.Mathlib.Nat.{zero-lt-suc, zero-add, suc-add, add-zero}
 use native.Mathlib.Numerals.{one-add, add-one}
@@ -12,11 +12,11 @@ use borrow.Author.Tests.{eq-eqb, ne-eqb}
 use Rattle.basics.specs.Below.{countBelow, anyBelow, one}
 use Rattle.basics.specs.Among.{among}
 use Rattle.basics.proofs.Any.{among-cons}
-use Rattle.basics.proofs.Truth.{is-false, by-order}
+use Rattle.basics.proofs.Truth.{by-order}
 use Rattle.basics.proofs.Count.{count-none, count-front, count-cong}
 use Rattle.idset.specs.declared.IdSet.{IdSet}
 use Rattle.idset.specs.Members.{digit, memberOf, sizeOf, nextMark, idsOf, above, membersOf}
-use Rattle.idset.proofs.Members.{id-high, member-id, member-at}
+use Rattle.idset.proofs.Members.{member-at}
 use Rattle.idset.proofs.Marks.{Mark, mark-is}
 
 ids-skip : (p : ℕ → Bool) (t n b : ℕ) → ((j : ℕ) → j < t → p (b + j) ≡ false) → idsOf p (t + n) b ≡ idsOf p n (b + t)

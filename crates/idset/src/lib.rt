@@ -21,8 +21,7 @@ fn clear_above(word: u64, base: u32, limit: u32) -> bool
     if 64 <= room { true } else { word >> room == 0 }
 }
 
-// The place of the first mark of the word at `from` or above, or 64 where there is none: a caller holds the word while it walks its
-// marks.
+// The place of the first mark of the word at `from` or above, or 64 where there is none. A walk over a set holds one word at a time.
 pub fn next_mark(word: u64, from: u32) -> u32
     ensures { λ r. ⌜ r ≡ nextMark word from ⌝ }
 {

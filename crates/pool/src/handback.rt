@@ -32,7 +32,8 @@ pub fn all_leaving(s: IdSet, states: &[u8; 256]) -> bool
     ok
 }
 
-// The members become free, and go into the list, ascending from its start; the rest keeps its contents.
+// The members become free, and go into the list, ascending from its start; the rest keeps its contents. No contract knows the length of
+// an array behind a reference, so this one goes by the entries that there are.
 pub fn hand(s: IdSet, states: &mut [u8; 256], out: &mut [u32])
     requires { ⌜ sizeOf s ≤ length (now out) ⌝ }
     ensures freed { λ _. ⌜ now (states .exit) ≡ table (length (now (states .entry))) (λ j. when (memberOf s (suc j)) 0 (getD (now (states .entry)) j 0)) ⌝ }

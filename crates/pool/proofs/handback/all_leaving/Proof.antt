@@ -1,6 +1,6 @@
 -- `pool::handback::all_leaving` meets its contract. Assumes nothing.
 use borrow.Author.Needs.{needs}
-use Prim.Native.Nat.{ℕ, _+_, _*_, _-_, _≤_, _<_}
+use Prim.Native.Nat.{_+_, _*_, _-_, _≤_, _<_}
 use mathlib.Core.Path.{_≡_}
 use native.Mathlib.Nat.{add-zero}
 use native.Mathlib.Omega.{arith}
@@ -24,17 +24,21 @@ abbrev μ-loop : tie.MeasureT-loop
 μ-loop states s ok₀ i₀ ok i = 4 - i
 
 -- the search came to a mark, or to the word's end
-passed : (c : tie.After-next-mark Inv-loop2 μ-loop2 Inv-loop μ-loop)
-    → Passed (c .before .before .before .before .before .args .t1) (64 * c .before .before .before .before .loop .i + c .before .loop2 .from) (64 * c .before .before .before .before .loop .i + c .next-mark .result)
-passed c = mark-passed (c .before .before .before .before .before .args .t1) (c .before .before .before .before .loop .i) (c .before .loop2 .from) (search needs) (c .next-mark .ensures) (c .before .loop2 .inv .0)
+passed : (c : tie.After-next-mark Inv-loop2 μ-loop2 Inv-loop μ-loop) →
+    let loop = c .before .before .before .before in
+    Passed (loop .before .args .t1) (64 * loop .loop .i + c .before .loop2 .from) (64 * loop .loop .i + c .next-mark .result)
+passed c =
+    let loop = c .before .before .before .before in
+    mark-passed (loop .before .args .t1) (loop .loop .i) (c .before .loop2 .from) (search needs) (c .next-mark .ensures) (c .before .loop2 .inv .0)
 
 below : (c : tie.Else1 Inv-loop2 μ-loop2 Inv-loop μ-loop) → c .before .next-mark .result < 64
 below c =
     let loop = c .before .before .before .before .before in
     mark-below (loop .before .args .t1) (loop .loop .i) (c .before .before .loop2 .from) (search needs) (c .before .next-mark .ensures) (c .if1 .left)
 
-met : (c : tie.Else1 Inv-loop2 μ-loop2 Inv-loop μ-loop)
-    → Met (c .before .before .before .before .before .before .args .t1) (64 * c .before .before .before .before .before .loop .i + c .before .next-mark .result)
+met : (c : tie.Else1 Inv-loop2 μ-loop2 Inv-loop μ-loop) →
+    let loop = c .before .before .before .before .before in
+    Met (loop .before .args .t1) (64 * loop .loop .i + c .before .next-mark .result)
 met c =
     let loop = c .before .before .before .before .before in
     mark-met (loop .before .args .t1) (loop .loop .i) (c .before .before .loop2 .from) (search needs) (c .before .next-mark .ensures) (c .if1 .left)
@@ -97,7 +101,6 @@ loop-again c =
 
 returns : tie.Need-returns Inv-loop2 μ-loop2 Inv-loop μ-loop
 returns c =
-    let a = c .before .before .args in
     let q : 64 * c .before .loop .i ≡ 256 = omega arith in
     rw q at (c .before .loop .inv .1)
 

@@ -26,17 +26,21 @@ abbrev μ-loop : tie.MeasureT-loop
 μ-loop states₀ out₀ s n₀ i₀ states out n i = 4 - i
 
 -- the search came to a mark, or to the word's end
-passed : (c : tie.After-next-mark Inv-loop2 μ-loop2 Inv-loop μ-loop)
-    → Passed (c .before .before .before .before .before .before .args .t1) (64 * c .before .before .before .before .loop .i + c .before .loop2 .from) (64 * c .before .before .before .before .loop .i + c .next-mark .result)
-passed c = mark-passed (c .before .before .before .before .before .before .args .t1) (c .before .before .before .before .loop .i) (c .before .loop2 .from) (search needs) (c .next-mark .ensures) (c .before .loop2 .inv .0)
+passed : (c : tie.After-next-mark Inv-loop2 μ-loop2 Inv-loop μ-loop) →
+    let loop = c .before .before .before .before in
+    Passed (loop .before .before .args .t1) (64 * loop .loop .i + c .before .loop2 .from) (64 * loop .loop .i + c .next-mark .result)
+passed c =
+    let loop = c .before .before .before .before in
+    mark-passed (loop .before .before .args .t1) (loop .loop .i) (c .before .loop2 .from) (search needs) (c .next-mark .ensures) (c .before .loop2 .inv .0)
 
 below : (c : tie.Else1 Inv-loop2 μ-loop2 Inv-loop μ-loop) → c .before .next-mark .result < 64
 below c =
     let loop = c .before .before .before .before .before in
     mark-below (loop .before .before .args .t1) (loop .loop .i) (c .before .before .loop2 .from) (search needs) (c .before .next-mark .ensures) (c .if1 .left)
 
-met : (c : tie.Else1 Inv-loop2 μ-loop2 Inv-loop μ-loop)
-    → Met (c .before .before .before .before .before .before .before .args .t1) (64 * c .before .before .before .before .before .loop .i + c .before .next-mark .result)
+met : (c : tie.Else1 Inv-loop2 μ-loop2 Inv-loop μ-loop) →
+    let loop = c .before .before .before .before .before in
+    Met (loop .before .before .args .t1) (64 * loop .loop .i + c .before .next-mark .result)
 met c =
     let loop = c .before .before .before .before .before in
     mark-met (loop .before .before .args .t1) (loop .loop .i) (c .before .before .loop2 .from) (search needs) (c .before .next-mark .ensures) (c .if1 .left)
