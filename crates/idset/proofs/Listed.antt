@@ -1,23 +1,23 @@
--- The members as an ascending list: the next one, and those above it. Assumes nothing.
+-- The members as an ascending list: those above an id, and a walk over them. Assumes nothing.
 use mathlib.Core.Path.{_≡_, refl, sym, ap, ap₂, _∙_, subst}
 use mathlib.Core.Bool.{Bool, true, false, _||_}
-use mathlib.Core.List.{List, [], _∷_}
-use Prim.Native.Nat.{ℕ, zero, suc, _+_, _-_, _≤_, _<_, suc-le-suc}
+use mathlib.Core.List.{List, _∷_}
+use Prim.Native.Nat.{ℕ, zero, suc, _+_, _-_, _*_, _≤_, _<_, suc-le-suc}
 use native.Mathlib.Nat.{zero-lt-suc, zero-add, suc-add, add-zero}
-use native.Mathlib.Numerals.{one-add}
+use native.Mathlib.Numerals.{one-add, add-one}
 use native.Mathlib.Omega.{arith}
-use lib.ListN.{length}
+use lib.ListN.{length, getD}
 use Rattle.basics.specs.Pick.{when}
 use borrow.Author.Tests.{eq-eqb, ne-eqb}
 use Rattle.basics.specs.Below.{countBelow, anyBelow, one}
 use Rattle.basics.specs.Among.{among}
 use Rattle.basics.proofs.Any.{among-cons}
-use Rattle.basics.proofs.Truth.{is-false, by-order}
+use Rattle.basics.proofs.Truth.{by-order}
 use Rattle.basics.proofs.Count.{count-none, count-front, count-cong}
 use Rattle.idset.specs.declared.IdSet.{IdSet}
-use Rattle.idset.specs.Members.{memberOf, sizeOf, nextOf, idsOf, above, membersOf}
-use Rattle.idset.proofs.Members.{id-high, member-id}
-use Rattle.idset.proofs.Next.{IsNext, next-is}
+use Rattle.idset.specs.Members.{digit, memberOf, sizeOf, nextMark, idsOf, above, membersOf}
+use Rattle.idset.proofs.Members.{member-at}
+use Rattle.idset.proofs.Marks.{Mark, mark-is}
 
 ids-skip : (p : ℕ → Bool) (t n b : ℕ) → ((j : ℕ) → j < t → p (b + j) ≡ false) → idsOf p (t + n) b ≡ idsOf p n (b + t)
 unfolding idsOf when
@@ -30,66 +30,65 @@ ids-skip p (suc t) n b f =
     move : (j : ℕ) → suc b + j ≡ b + suc j
     move j = omega arith
 
-ids-none : (p : ℕ → Bool) (n b : ℕ) → ((c : ℕ) → b ≤ c → p c ≡ false) → idsOf p n b ≡ []
-unfolding idsOf when
-ids-none p zero b f = refl
-ids-none p (suc n) b f =
-    ap (λ (x : Bool). when x (b ∷ idsOf p n (suc b)) (idsOf p n (suc b))) (f b (omega arith)) ∙ ids-none p n (suc b) (λ c l. f c (omega arith))
-
 ids-hit : (p : ℕ → Bool) (n b : ℕ) → p b ≡ true → idsOf p (suc n) b ≡ b ∷ idsOf p n (suc b)
 unfolding idsOf when
 ids-hit p n b e = ap (λ (x : Bool). when x (b ∷ idsOf p n (suc b)) (idsOf p n (suc b))) e
 
-pub above-none : (s : IdSet) (a : ℕ) → nextOf s a ≡ 0 → above s a ≡ []
-unfolding above
-above-none s a z = ids-none (memberOf s) (256 - a) (suc a) (λ b l. is-false (memberOf s b) (λ e. omega (arith, next-is s a .least b l e .0)))
+-- ---- a walk over the members, that has come from id a to id v
 
-pub above-next : (s : IdSet) (a : ℕ) → (nextOf s a ≡ 0 → ⊥) → above s a ≡ nextOf s a ∷ above s (nextOf s a)
-unfolding above
-above-next s a f =
-    let r = nextOf s a in
-    let is = next-is s a in
-    let lo = is .found f .0 in
-    let hi = id-high r (member-id s r (is .found f .1)) in
-    let t = r - suc a in
-    let count : 256 - a ≡ t + suc (256 - r) = omega arith in
-    let here : suc a + t ≡ r = omega arith in
-    ap (λ (n : ℕ). idsOf (memberOf s) n (suc a)) count
-    ∙ ids-skip (memberOf s) t (suc (256 - r)) (suc a) (λ j l. is-false (memberOf s (suc a + j)) (λ e. omega (arith, is .least (suc a + j) (omega arith) e .1)))
-    ∙ ap (idsOf (memberOf s) (suc (256 - r))) here ∙ ids-hit (memberOf s) (256 - r) r (is .found f .1)
-
--- a step of a loop `let v = s.next(a); if v == 0 { break; } .. a = v;`, and its end
-pub record Stepped (s : IdSet) (a v : ℕ) : Type 0 where
-  pub up : a < v
+-- no member stands above a and up to v
+pub record Passed (s : IdSet) (a v : ℕ) : Type 0 where
+  pub up : a ≤ v
   pub top : v ≤ 256
-  pub member : memberOf s v ≡ true
-  pub none : (b : ℕ) → a < b → b < v → memberOf s b ≡ false
-  pub list : above s a ≡ v ∷ above s v
+  pub none : (b : ℕ) → a < b → b ≤ v → memberOf s b ≡ false
 
-pub next-step : {s : IdSet} {a v : ℕ} → v ≡ nextOf s a → (v ≡ 0 → ⊥) → Stepped s a v
-next-step {s} {a} {v} e f = subst (Stepped s a) (sym e) (record {
-  up = is .found g .0;
-  top = id-high (nextOf s a) (member-id s (nextOf s a) (is .found g .1));
-  member = is .found g .1;
-  none = λ b lo up. is-false (memberOf s b) (λ q. omega (arith, is .least b lo q .1));
-  list = above-next s a g;
-})
-  where
-    is : IsNext s a (nextOf s a)
-    is = next-is s a
+pub above-passed : {s : IdSet} {a v : ℕ} → Passed s a v → above s a ≡ above s v
+unfolding above
+above-passed {s} {a} {v} p =
+    let up = p .up in
+    let top = p .top in
+    let count : 256 - a ≡ (v - a) + (256 - v) = omega arith in
+    let here : suc a + (v - a) ≡ suc v = omega arith in
+    ap (λ (n : ℕ). idsOf (memberOf s) n (suc a)) count
+    ∙ ids-skip (memberOf s) (v - a) (256 - v) (suc a) (λ j l. p .none (suc a + j) (omega arith) (omega arith))
+    ∙ ap (idsOf (memberOf s) (256 - v)) here
 
-    g : nextOf s a ≡ 0 → ⊥
-    g z = f (e ∙ z)
+-- id k + 1 is a member
+pub record Met (s : IdSet) (k : ℕ) : Type 0 where
+  pub top : k < 256
+  pub member : memberOf s (k + 1) ≡ true
 
-pub record Ended (s : IdSet) (a : ℕ) : Type 0 where
-  pub none : (b : ℕ) → a < b → memberOf s b ≡ false
-  pub list : above s a ≡ []
+pub above-met : {s : IdSet} {k : ℕ} → Met s k → above s k ≡ (k + 1) ∷ above s (k + 1)
+unfolding above
+above-met {s} {k} met =
+    let top = met .top in
+    let count : 256 - k ≡ suc (256 - (k + 1)) = omega arith in
+    ap₂ (idsOf (memberOf s)) count (sym (add-one k)) ∙ ids-hit (memberOf s) (256 - (k + 1)) (k + 1) (met .member)
 
-pub next-end : {s : IdSet} {a v : ℕ} → v ≡ nextOf s a → v ≡ 0 → Ended s a
-next-end {s} {a} e z = record {
-  none = λ b l. is-false (memberOf s b) (λ q. omega (arith, next-is s a .least b l q .0));
-  list = above-none s a (sym e ∙ z);
-}
+-- what a search for the next mark of word i tells: r is a place of that word, or its end
+module _ (s : IdSet) (i m : ℕ) {r : ℕ} (hi : i < 4) (e : r ≡ nextMark (getD (s .words) i 0) m) where
+  mark : Mark (getD (s .words) i 0) m r
+  mark = subst (Mark (getD (s .words) i 0) m) (sym e) (mark-is (getD (s .words) i 0) m)
+
+  member-in : (b j : ℕ) → j < 64 → b ≡ 64 * i + j + 1 → memberOf s b ≡ digit (getD (s .words) i 0) j
+  member-in b j l q = let q′ : b ≡ suc (i * 64 + j) = omega arith in ap (memberOf s) q′ ∙ member-at s i j hi l
+
+  pub mark-passed : m ≤ 64 → Passed s (64 * i + m) (64 * i + r)
+  mark-passed h =
+      let top = mark .top in
+      record {
+        up = by-order 64 r (λ l. omega arith) (λ l. omega (arith, mark .found (λ z. omega arith) .0));
+        top = omega arith;
+        none = λ b lo up. let j = b - (64 * i + 1) in member-in b j (omega arith) (omega arith) ∙ mark .none j (omega arith) (omega arith);
+      }
+
+  pub mark-below : (r ≡ 64 → ⊥) → r < 64
+  mark-below f = omega (arith, mark .top)
+
+  pub mark-met : (r ≡ 64 → ⊥) → Met s (64 * i + r)
+  mark-met f =
+      let below = mark-below f in
+      record { top = omega arith; member = member-in (64 * i + r + 1) r below refl ∙ mark .found f .1 }
 
 -- as many as the count says
 ids-length : (p : ℕ → Bool) (n b : ℕ) → length (idsOf p n b) ≡ countBelow n (λ k. p (b + k))

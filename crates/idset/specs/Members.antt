@@ -59,14 +59,14 @@ largerOf s t = record { words = largerAt s t 0 ∷ largerAt s t 1 ∷ largerAt s
 unfoldable pub sizeOf : IdSet → ℕ
 sizeOf s = countBelow 256 (λ k. memberOf s (suc k))
 
--- the first of b, b + 1, .., b + n - 1 that p holds of, or 0
-unfoldable pub firstOf : (ℕ → Bool) → ℕ → ℕ → ℕ
-firstOf p zero b = 0
-firstOf p (suc n) b = when (p b) b (firstOf p n (suc b))
+-- the first of the places j, j + 1, .., j + n - 1 of word w that is marked, or 64
+unfoldable pub firstMark : ℕ → ℕ → ℕ → ℕ
+firstMark w zero j = 64
+firstMark w (suc n) j = when (digit w j) j (firstMark w n (suc j))
 
--- the least member above a, or 0
-unfoldable pub nextOf : IdSet → ℕ → ℕ
-nextOf s a = firstOf (memberOf s) 256 (suc a)
+-- the first marked place of word w at j or above, or 64
+unfoldable pub nextMark : ℕ → ℕ → ℕ
+nextMark w j = firstMark w (64 - j) j
 
 -- every member is at most a
 unfoldable pub withinOf : IdSet → ℕ → Bool

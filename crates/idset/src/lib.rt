@@ -1,10 +1,10 @@
 // A set of buffer ids 1 to 256 as four words of marks: bit (id - 1) % 64 of word (id - 1) / 64 is set exactly when id is a member.
 // The contracts say each result by membership: `memberOf s b`, and `setOf p`, the set of the ids that p holds of.
-// Only `larger` goes by words.
+// `larger` and `next_mark` alone go by words.
 ghost use mathlib.Core.Path.{_≡_};
 ghost use Prim.Native.Nat.{_-_, _^_, max};
 ghost use lib.Dec.{ltb};
-ghost use Rattle.idset.specs.Members.{memberOf, noIds, withOf, withoutOf, sizeOf, nextOf, withinOf, largerOf};
+ghost use Rattle.idset.specs.Members.{memberOf, noIds, withOf, withoutOf, sizeOf, nextMark, withinOf, largerOf};
 
 pub struct IdSet {
     pub words: [u64; 4],
@@ -26,6 +26,20 @@ fn larger_word(a: u64, b: u64) -> u64
     ensures { λ r. ⌜ r ≡ max a b ⌝ }
 {
     if a < b { b } else { a }
+}
+
+// The place of the first mark of the word at `from` or above, or 64 where there is none. A walk over a set holds one word at a time.
+pub fn next_mark(word: u64, from: u32) -> u32
+    ensures { λ r. ⌜ r ≡ nextMark word from ⌝ }
+{
+    if 64 <= from {
+        return 64;
+    }
+    let rest = word >> from;
+    if rest == 0 {
+        return 64;
+    }
+    from + u64::trailing_zeros(rest)
 }
 
 impl IdSet {
@@ -94,30 +108,6 @@ impl IdSet {
             + u64::count_ones(self.words[1])
             + u64::count_ones(self.words[2])
             + u64::count_ones(self.words[3])
-    }
-
-    // The least member above `after`, or 0 where there is none.
-    pub fn next(self, after: u32) -> u32
-        ensures { λ r. ⌜ r ≡ nextOf self after ⌝ }
-    {
-        if 256 <= after {
-            return 0;
-        }
-        let first = (after / 64) as usize;
-        let w = self.words[first] >> (after % 64);
-        if w != 0 {
-            return after + u64::trailing_zeros(w) + 1;
-        }
-        let mut base = (after / 64 + 1) * 64;
-        while base < 256 {
-            let i = (base / 64) as usize;
-            let v = self.words[i];
-            if v != 0 {
-                return base + u64::trailing_zeros(v) + 1;
-            }
-            base += 64;
-        }
-        0
     }
 
     // Whether every member is at most limit; within 0 a set is empty. No branch depends on the words.

@@ -9,15 +9,16 @@ use native.Mathlib.Numerals.{add-one}
 use lib.Dec.{eqb, leb}
 use lib.ListN.{length, getD, set, take, drop, length-set, take-append-drop}
 use lib.Seq.{getD-set-same, getD-set-other, take-suc-set, drop-set-lt, drop-drop}
-use borrow.Author.Tests.{le-leb, lt-leb}
+use borrow.Author.Tests.{le-leb, lt-leb, leb-true}
 use Rattle.basics.specs.Pick.{when}
 use Rattle.basics.specs.Below.{allBelow, table}
-use Rattle.basics.proofs.Truth.{by-order}
+use Rattle.basics.proofs.Truth.{both, by-order}
 use Rattle.basics.proofs.All.{all-of, all-split}
 use Rattle.basics.proofs.Table.{table-at, table-is, table-length, table-cong}
 use Rattle.idset.specs.declared.IdSet.{IdSet}
-use Rattle.idset.specs.Members.{memberOf, sizeOf, above, membersOf}
-use Rattle.idset.proofs.Listed.{Stepped, Ended, members-size}
+use Rattle.idset.specs.Members.{memberOf, sizeOf, idsOf, above, membersOf}
+use Rattle.idset.proofs.Members.{no-member, too-high}
+use Rattle.idset.proofs.Listed.{Passed, Met, above-passed, above-met, members-size}
 use Rattle.pool.specs.Steps.{handed}
 
 -- ---- whether the members up to a are leaving
@@ -32,90 +33,105 @@ all-skip f n m l h =
 abbrev pub leaves : IdSet → List ℕ → ℕ → Bool
 leaves s st j = not (memberOf s (suc j)) || eqb (getD st j 0) 2
 
-module _ (st : List ℕ) {s : IdSet} {a : ℕ} {ok : Bool} where
-  pub leaves-again : {v : ℕ} → Stepped s a v → ok ≡ allBelow a (leaves s st) → (ok && eqb (getD st (v - 1) 0) 2) ≡ allBelow v (leaves s st)
-  unfolding allBelow
-  leaves-again {v} step e =
-      let up = step .up in
-      let q : suc (v - 1) ≡ v = omega arith in
-      ap₂ _&&_
-      (e ∙ all-skip (leaves s st) a (v - 1) (omega arith) (λ j lo hi. rw (step .none (suc j) (omega arith) (omega arith))))
-      (ap (λ (t : Bool). not t || eqb (getD st (v - 1) 0) 2) (sym (ap (memberOf s) q ∙ step .member)))
-      ∙ ap (λ (n : ℕ). allBelow n (leaves s st)) q
+module _ (st : List ℕ) {s : IdSet} {ok : Bool} where
+  pub leaves-passed : {a v : ℕ} → Passed s a v → ok ≡ allBelow a (leaves s st) → ok ≡ allBelow v (leaves s st)
+  leaves-passed {a} {v} p e = e ∙ all-skip (leaves s st) a v (p .up) (λ j lo hi. rw (p .none (suc j) (omega arith) (omega arith)))
 
-  pub leaves-done : Ended s a → a ≤ 256 → ok ≡ allBelow a (leaves s st) → ok ≡ allBelow 256 (leaves s st)
-  leaves-done end l e = e ∙ all-skip (leaves s st) a 256 l (λ j lo hi. rw (end .none (suc j) (omega arith)))
+  pub leaves-met : {k : ℕ} → Met s k → ok ≡ allBelow k (leaves s st) → (ok && eqb (getD st k 0) 2) ≡ allBelow (k + 1) (leaves s st)
+  unfolding allBelow
+  leaves-met {k} met e = rw (add-one, e, ← add-one k, met .member)
 
 -- ---- the states with the members up to a free
 
 abbrev upTo : IdSet → ℕ → ℕ → Bool
 upTo s a b = leb b a && memberOf s b
 
-abbrev pub freedTo : IdSet → List ℕ → ℕ → List ℕ
-freedTo s st a = table 256 (λ j. when (upTo s a (suc j)) 0 (getD st j 0))
+abbrev freedTo : IdSet → List ℕ → ℕ → List ℕ
+freedTo s st a = table (length st) (λ j. when (upTo s a (suc j)) 0 (getD st j 0))
 
-pub freed-none : (s : IdSet) (st : List ℕ) → length st ≡ 256 → st ≡ freedTo s st 0
+freed-none : (s : IdSet) (st : List ℕ) → st ≡ freedTo s st 0
 unfolding when
-freed-none s st e = table-is 256 _ st 0 e (λ j l. rw (lt-leb (suc j) 0 (omega arith)))
+freed-none s st = table-is (length st) _ st 0 refl (λ j l. rw (lt-leb (suc j) 0 (omega arith)))
 
--- a step adds its member alone
-same-but : {s : IdSet} {a v : ℕ} (b : ℕ) → Stepped s a v → (b ≡ v → ⊥) → upTo s a b ≡ upTo s v b
-same-but {s} {a} {v} b step n =
-    let up = step .up in
-    by-order b a
-    (λ l. rw (le-leb b a l, le-leb b v (omega arith)))
-    (λ l. by-order v b
-    (λ m. rw (lt-leb b a l, lt-leb b v (omega arith)))
-    (λ m. rw (lt-leb b a l, le-leb b v (omega arith), step .none b l m)))
+module _ (st : List ℕ) {after : List ℕ} where
+  freed-passed : {s : IdSet} {a v : ℕ} → Passed s a v → after ≡ freedTo s st a → after ≡ freedTo s st v
+  freed-passed {s} {a} {v} p e = e ∙ table-cong (length st) _ _ (λ j l. ap (λ (t : Bool). when t 0 (getD st j 0)) (same (suc j)))
+    where
+      same : (b : ℕ) → upTo s a b ≡ upTo s v b
+      same b =
+          let up = p .up in
+          by-order b a
+          (λ l. rw (le-leb b a l, le-leb b v (omega arith)))
+          (λ l. by-order b v
+          (λ m. rw (lt-leb b a l, le-leb b v m, p .none b l m))
+          (λ m. rw (lt-leb b a l, lt-leb b v m)))
 
-module _ (st : List ℕ) {s : IdSet} {a : ℕ} {after : List ℕ} where
-  pub freed-again : {v : ℕ} → Stepped s a v → after ≡ freedTo s st a → set after (v - 1) 0 ≡ freedTo s st v
+  freed-met : {s : IdSet} {k : ℕ} → Met s k → after ≡ freedTo s st k → set after k 0 ≡ freedTo s st (k + 1)
   unfolding when
-  freed-again {v} step e = table-is 256 _ (set after (v - 1) 0) 0 (length-set after (v - 1) 0 ∙ long) (λ j l. go j l (ℕ-discrete (suc j) v))
+  freed-met {s} {k} met e = table-is (length st) _ (set after k 0) 0 (length-set after k 0 ∙ long) (λ j l. go j l (ℕ-discrete j k))
     where
-      long : length after ≡ 256
-      long = ap length e ∙ table-length 256 _
+      long : length after ≡ length st
+      long = ap length e ∙ table-length (length st) _
 
-      go : (j : ℕ) → j < 256 → Dec (suc j ≡ v) → getD (set after (v - 1) 0) j 0 ≡ when (upTo s v (suc j)) 0 (getD st j 0)
+      go : (j : ℕ) → j < length st → Dec (j ≡ k) → getD (set after k 0) j 0 ≡ when (upTo s (k + 1) (suc j)) 0 (getD st j 0)
       go j l (yes q) =
-          let at : j ≡ v - 1 = omega arith in
-          ap (λ (n : ℕ). getD (set after (v - 1) 0) n 0) at ∙ getD-set-same after (v - 1) 0 0 (omega (arith, long))
-          ∙ rw (le-leb (suc j) v (omega arith), ap (memberOf s) q, step .member)
+          ap (λ (n : ℕ). getD (set after k 0) n 0) q ∙ getD-set-same after k 0 0 (omega (arith, long))
+          ∙ rw (le-leb (suc j) (k + 1) (omega arith), q, ← add-one k, met .member)
       go j l (no n) =
-          getD-set-other after (v - 1) j 0 0 (λ q. n (omega (arith, step .up))) ∙ ap (λ (x : List ℕ). getD x j 0) e
-          ∙ table-at 256 (λ k. when (upTo s a (suc k)) 0 (getD st k 0)) j 0 l
-          ∙ ap (λ (t : Bool). when t 0 (getD st j 0)) (same-but (suc j) step n)
+          getD-set-other after k j 0 0 n ∙ ap (λ (x : List ℕ). getD x j 0) e
+          ∙ table-at (length st) (λ i. when (upTo s k (suc i)) 0 (getD st i 0)) j 0 l
+          ∙ ap (λ (t : Bool). when (t && memberOf s (suc j)) 0 (getD st j 0))
+          (both (leb (suc j) k) (leb (suc j) (k + 1))
+          (λ t. le-leb (suc j) (k + 1) (omega (arith, leb-true (suc j) k t)))
+          (λ t. le-leb (suc j) k (omega (arith, leb-true (suc j) (k + 1) t))))
 
-  pub freed-done : Ended s a → after ≡ freedTo s st a → after ≡ table 256 (λ j. when (memberOf s (suc j)) 0 (getD st j 0))
-  freed-done end e = e ∙ table-cong 256 _ _ (λ j l. ap (λ (t : Bool). when t 0 (getD st j 0)) (all (suc j)))
+  freed-all : (s : IdSet) → after ≡ freedTo s st 256 → after ≡ table (length st) (λ j. when (memberOf s (suc j)) 0 (getD st j 0))
+  freed-all s e = e ∙ table-cong (length st) _ _ (λ j l. ap (λ (t : Bool). when t 0 (getD st j 0)) (all (suc j)))
     where
-      all : (b : ℕ) → upTo s a b ≡ memberOf s b
-      all b = by-order b a (λ l. rw (le-leb b a l)) (λ l. rw (lt-leb b a l, end .none b l))
+      all : (b : ℕ) → upTo s 256 b ≡ memberOf s b
+      all b = by-order b 256 (λ l. rw (le-leb b 256 l)) (λ l. rw (lt-leb b 256 l, no-member s b (too-high l)))
 
--- ---- the lent list, its first n entries written: the members up to a
+-- ---- the walk that hands back: the states with the members up to a free, and the lent list, whose first n entries are these members
 
-pub record Written (s : IdSet) (old out : List ℕ) (n a : ℕ) : Type 0 where
+pub record Handing (s : IdSet) (st old after out : List ℕ) (n a : ℕ) : Type 0 where
+  pub free : after ≡ freedTo s st a
   pub long : length out ≡ length old
   pub left : n + length (above s a) ≡ sizeOf s
   pub front : take n out ++ above s a ≡ membersOf s
   pub rest : drop n out ≡ drop n old
 
-pub written-none : (s : IdSet) (old : List ℕ) → Written s old old 0 0
+pub handing-none : (s : IdSet) (st old : List ℕ) → Handing s st old st old 0 0
 unfolding membersOf
-written-none s old = record { long = refl; left = omega (arith, members-size s); front = refl; rest = refl }
+handing-none s st old = record { free = freed-none s st; long = refl; left = omega (arith, members-size s); front = refl; rest = refl }
 
-pub written-again : {s : IdSet} {old out : List ℕ} {n a v : ℕ} → Stepped s a v → n < length out → Written s old out n a
-    → Written s old (set out n v) (n + 1) v
-written-again {s} {old} {out} {n} {a} {v} step l w = record {
-  long = length-set out n v ∙ w .long;
-  left = omega (arith, w .left, ap length (step .list));
-  front = rw (add-one, take-suc-set, append-assoc, ← step .list) (w .front);
-  rest = drop-set-lt (n + 1) out n v (omega arith) ∙ sym (drop-drop 1 n out) ∙ ap (drop 1) (w .rest) ∙ drop-drop 1 n old;
-}
+module _ {s : IdSet} {st old after out : List ℕ} {n : ℕ} where
+  pub handing-passed : {a v : ℕ} → Passed s a v → Handing s st old after out n a → Handing s st old after out n v
+  handing-passed p h = record {
+    free = freed-passed st p (h .free);
+    long = h .long;
+    left = rw (← above-passed p) (h .left);
+    front = rw (← above-passed p) (h .front);
+    rest = h .rest;
+  }
 
-pub written-done : {s : IdSet} {old out : List ℕ} {n a : ℕ} → Ended s a → Written s old out n a → out ≡ handed s old
-unfolding handed
-written-done {s} {old} {out} {n} {a} end w =
-    let whole : n ≡ sizeOf s = omega (arith, w .left, ap length (end .list)) in
-    let front : take n out ≡ membersOf s = rw (end .list, append-nil) at (w .front) in
-    sym (take-append-drop n out) ∙ ap₂ _++_ front (w .rest ∙ ap (λ (k : ℕ). drop k old) whole)
+  pub handing-room : {k : ℕ} → Met s k → Handing s st old after out n k → n < sizeOf s
+  handing-room met h = omega (arith, h .left, ap length (above-met met))
+
+  pub handing-met : {k : ℕ} → Met s k → n < length out → Handing s st old after out n k
+      → Handing s st old (set after k 0) (set out n (k + 1)) (n + 1) (k + 1)
+  handing-met {k} met l h = record {
+    free = freed-met st met (h .free);
+    long = length-set out n (k + 1) ∙ h .long;
+    left = omega (arith, h .left, ap length (above-met met));
+    front = rw (add-one n, take-suc-set, append-assoc, ← above-met met) (h .front);
+    rest = drop-set-lt (n + 1) out n (k + 1) (omega arith) ∙ sym (drop-drop 1 n out) ∙ ap (drop 1) (h .rest) ∙ drop-drop 1 n old;
+  }
+
+  pub handing-all : Handing s st old after out n 256 → (after ≡ table (length st) (λ j. when (memberOf s (suc j)) 0 (getD st j 0))) × (out ≡ handed s old)
+  unfolding handed above idsOf
+  handing-all h =
+      let whole : n ≡ sizeOf s = omega (arith, h .left) in
+      let front : take n out ≡ membersOf s = rw append-nil at (h .front) in (
+        freed-all st s (h .free),
+        sym (take-append-drop n out) ∙ ap₂ _++_ front (h .rest ∙ ap (λ (i : ℕ). drop i old) whole),
+      )

@@ -14,7 +14,6 @@ use crate::Verdict;
 use crate::WorkerNo;
 use crate::checks::worker_verdict;
 use crate::handback::all_leaving;
-use crate::handback::freed;
 use crate::handback::hand;
 use crate::sound::parts_sound;
 use idset::IdSet;
@@ -127,10 +126,7 @@ impl Pool {
                 pool: self,
             };
         }
-        hand(set, out);
-        let old = self.states;
-        let states = freed(set, old);
-        self.states = states;
+        hand(set, &mut self.states, out);
         self.ends(k, Answer::Back(size))
     }
 

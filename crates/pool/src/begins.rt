@@ -1,12 +1,13 @@
 // The begins. Each hands back the record as it then is; a refused one hands back the record that came in.
 ghost use mathlib.Core.Path.{_≡_};
+ghost use mathlib.Core.Bool.{_&&_};
 ghost use Prim.Native.Nat.{suc, _<_};
 ghost use lib.Dec.{eqb};
-ghost use lib.ListN.{getD};
+ghost use lib.ListN.{length, getD};
 ghost use Rattle.basics.specs.Pick.{when};
 ghost use Rattle.basics.specs.Below.{table};
 ghost use Rattle.basics.specs.Among.{among};
-ghost use Rattle.idset.specs.Members.{setOf};
+ghost use Rattle.idset.specs.Members.{isId, setOf};
 ghost use Rattle.pool.specs.Answers.{told};
 ghost use Rattle.pool.specs.Begins.{hireOf, fireOf, postOf, giveUpOf, takeOf, askOf};
 use crate::Answer;
@@ -99,9 +100,7 @@ impl Pool {
                 pool: self,
             };
         }
-        let old = self.states;
-        let states = leaving(old, ids);
-        self.states = states;
+        leaving(&mut self.states, ids);
         let set = collected(ids);
         let k = (w.0 - 1) as usize;
         self.sets[k] = set;
@@ -159,31 +158,27 @@ impl Pool {
     }
 }
 
-// The states with buffer id leaving; one that is none changes nothing.
-fn left(mut states: [u8; 256], id: u32) -> [u8; 256]
-    ensures { λ r. ⌜ r ≡ table 256 (λ k. when (eqb id (suc k)) 2 (getD states k 0)) ⌝ }
+// Buffer id is leaving from now on; one that is none changes nothing.
+fn left(states: &mut [u8; 256], id: u32)
+    ensures { λ _. ⌜ now (states .exit) ≡ table (length (now (states .entry))) (λ k. when (isId (suc k) && eqb id (suc k)) 2 (getD (now (states .entry)) k 0)) ⌝ }
 {
     if id < 1 {
-        return states;
+        return;
     }
     if 256 < id {
-        return states;
+        return;
     }
     let at = (id - 1) as usize;
     states[at] = 2;
-    states
 }
 
-// The states with the list's buffers leaving.
-fn leaving(states: [u8; 256], ids: &[u32]) -> [u8; 256]
-    ensures { λ r. ⌜ r ≡ table 256 (λ k. when (among (now (ids .entry)) (suc k)) 2 (getD states k 0)) ⌝ }
+// The list's buffers are leaving from now on.
+fn leaving(states: &mut [u8; 256], ids: &[u32])
+    ensures { λ _. ⌜ now (states .exit) ≡ table (length (now (states .entry))) (λ k. when (isId (suc k) && among (now (ids .entry)) (suc k)) 2 (getD (now (states .entry)) k 0)) ⌝ }
 {
-    let mut after = states;
     for j in 0..ids.len() {
-        let next = left(after, ids[j]);
-        after = next;
+        left(states, ids[j]);
     }
-    after
 }
 
 // The list's ids as a set.

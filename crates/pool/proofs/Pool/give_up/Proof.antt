@@ -1,4 +1,6 @@
 -- `pool::Pool::give_up` meets its contract. Assumes nothing.
+use lib.ListN.{length}
+use mathlib.Core.Path.{_≡_}
 use Rattle.pool.specs.Begins.{giveUpOf}
 use Rattle.pool.proofs.Told.{begins}
 use Rattle.pool.proofs.Checked.{indices}
@@ -6,6 +8,9 @@ use Rattle.pool.proofs.Lists.{given-up}
 use borrow.Author.Needs.{needs}
 use Rattle.pool.proofs.Pool.give_up.Statement.{statement}
 use Rattle.pool.proofs.Pool.give_up.Tie as tie
+
+states-long : (c : tie.Start) → length (c .args .t1 .states) ≡ 256
+states-long c = search needs
 
 give-up-check-requires : tie.Need-give-up-check-requires
 give-up-check-requires c κs = search needs
@@ -52,7 +57,9 @@ returns c = search begins depth 12
 
 returns-2 : tie.Need-returns-2
 unfolding giveUpOf
-returns-2 c = search (begins, given-up) depth 12
+returns-2 c =
+    let long = states-long (c .before .before .before .before .before .before .before .before .before) in
+    search (begins, given-up) depth 12
 
 pub give-up-spec : {M : Type 1} → statement M
 give-up-spec =

@@ -1,10 +1,13 @@
 -- `pool::Pool::line32` meets its contract. Assumes nothing.
 use lib.ListN.{length}
-use mathlib.Core.Path.{_∙_}
+use mathlib.Core.Path.{_≡_, _∙_}
 use Rattle.pool.proofs.Dispatch.{after-is, after-stops, list-is, list-stops, not-all-leaving, too-short, hands, handed-back}
 use borrow.Author.Needs.{needs}
 use Rattle.pool.proofs.Pool.line32.Statement.{statement}
 use Rattle.pool.proofs.Pool.line32.Tie as tie
+
+states-long : (c : tie.Start) → length (c .args .t1 .states) ≡ 256
+states-long c = search needs
 
 mul-set : tie.Need-mul-set
 mul-set c = search needs
@@ -39,9 +42,6 @@ returns-2 c =
 hand-requires : tie.Need-hand-requires
 hand-requires c κs = search needs
 
-freed-requires : tie.Need-freed-requires
-freed-requires c κs = search needs
-
 ends-requires : tie.Need-ends-requires
 ends-requires c κs = search needs
 
@@ -50,14 +50,16 @@ same-length c = search needs
 
 returns-3 : tie.Need-returns-3
 returns-3 c =
-    let hand = c .before .before .before .before .before in
-    let room = hand .before .before in
+    let hand = c .before .before .before in
+    let room = hand .before .before .before in
     let size = room .before in
     let all = size .before .before in
-    let a = all .before .before .before .before .before .args in
-    let e = hands (a .k) (a .t1) (length (a .out .now)) _ (all .all-leaving .ensures) (size .before .if1 .left) _ (size .size .ensures) (room .if2 .left) in (
-      after-is _ _ e (c .ends .ensures ∙ handed-back (a .k) (a .t1) (length (a .out .now)) _ _ (size .size .ensures) (c .before .freed .ensures)),
-      list-is _ _ e (hand .hand .ensures),
+    let start = all .before .before .before .before .before in
+    let a = start .args in
+    let e = hands (a .k) (a .t1) (length (a .out .now)) _ (all .all-leaving .ensures) (size .before .if1 .left) _ (size .size .ensures) (room .if2 .left) in
+    let free = rw (states-long start) at (hand .hand .ensures .0) in (
+      after-is _ _ e (c .ends .ensures ∙ handed-back (a .k) (a .t1) (length (a .out .now)) _ _ (size .size .ensures) free),
+      list-is _ _ e (hand .hand .ensures .1),
     )
 
 pub line32-spec : {M : Type 1} → statement M
@@ -72,7 +74,6 @@ line32-spec =
     cast-if2
     returns-2
     hand-requires
-    freed-requires
     ends-requires
     same-length
     returns-3)

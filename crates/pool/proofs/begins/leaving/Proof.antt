@@ -9,13 +9,13 @@ use Rattle.pool.proofs.begins.leaving.Statement.{statement}
 use Rattle.pool.proofs.begins.leaving.Tie as tie
 
 abbrev Inv-loop : tie.InvT-loop
-Inv-loop ids after₀ j₀ j-end after j = (j-end ≡ length ids) × (j ≤ j-end) × (after ≡ leftFirst after₀ ids j)
+Inv-loop states₀ ids j₀ j-end states j = (j-end ≡ length ids) × (j ≤ j-end) × (states ≡ leftFirst states₀ ids j)
 
 abbrev μ-loop : tie.MeasureT-loop
-μ-loop ids after₀ j₀ j-end after j = j-end - j
+μ-loop states₀ ids j₀ j-end states j = j-end - j
 
 loop-holds : tie.Need-loop-holds Inv-loop μ-loop
-loop-holds c = (search needs, search needs, left-first-none _ (c .before .args .ids .now) (search needs))
+loop-holds c = (search needs, search needs, left-first-none _ (c .before .args .ids .now))
 
 mul-left : tie.Need-mul-left Inv-loop μ-loop
 mul-left c = search needs
@@ -34,15 +34,15 @@ loop-less c = search needs
 
 loop-again : tie.Need-loop-again Inv-loop μ-loop
 loop-again c =
-    let a = c .before .before .before .before .before .args in
-    let loop = c .before .before .before .loop in
-    (search needs, search needs, left-first-again (a .states) (a .ids .now) (loop .j) (loop .inv .2) (c .left .ensures))
+    let a = c .before .before .before .before .before .before .args in
+    let loop = c .before .before .before .before .loop in
+    (search needs, search needs, left-first-again (a .states .now) (a .ids .now) (loop .j) (loop .inv .2) (c .left .ensures))
 
 returns : tie.Need-returns Inv-loop μ-loop
 returns c =
     let a = c .before .before .before .args in
     let end : c .before .loop .j ≡ length (a .ids .now) = omega arith in
-    c .before .loop .inv .2 ∙ ap (leftFirst (a .states) (a .ids .now)) end
+    c .before .loop .inv .2 ∙ ap (leftFirst (a .states .now) (a .ids .now)) end
 
 pub leaving-spec : {M : Type 1} → statement M
 leaving-spec =
