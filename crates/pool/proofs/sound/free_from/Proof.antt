@@ -3,12 +3,10 @@ use borrow.Author.Needs.{needs}
 use Prim.Native.Nat.{_≤_, _-_}
 use mathlib.Core.Path.{_≡_}
 use Rattle.basics.specs.Below.{allBelow}
-use mathlib.Core.Bool.{not}
 use lib.Dec.{eqb}
 use lib.ListN.{getD}
-use mathlib.Core.Bool.{false}
 use Rattle.basics.proofs.All.{all-again, all-done}
-use Rattle.pool.proofs.Scans.{none-zero, none-asked, asked}
+use Rattle.pool.proofs.Scans.{none-zero, asked}
 use Rattle.pool.specs.Scans.{zeroFrom}
 use Rattle.pool.proofs.sound.free_from.Statement.{statement}
 use Rattle.pool.proofs.sound.free_from.Tie as tie

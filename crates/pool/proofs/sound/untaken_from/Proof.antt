@@ -3,10 +3,8 @@ use borrow.Author.Needs.{needs}
 use Prim.Native.Nat.{_≤_, _-_}
 use mathlib.Core.Path.{_≡_}
 use Rattle.basics.specs.Below.{allBelow}
-use mathlib.Core.Bool.{not}
-use lib.Dec.{eqb}
+use mathlib.Core.Bool.{false, not}
 use lib.ListN.{getD}
-use mathlib.Core.Bool.{false}
 use Rattle.basics.proofs.All.{all-again, all-done}
 use Rattle.pool.proofs.Scans.{none-asked, asked}
 use Rattle.pool.specs.Scans.{untakenFrom}
