@@ -30,8 +30,8 @@ use Rattle.pool.specs.Answers.{Told, Check, fine, refuse, numberOf, verd
 use Rattle.pool.specs.Record.{stateOf, workerAt, setAt, withStates}
 use Rattle.pool.specs.Steps.{iOf, puts, ends, line32, lineOf, handCheck, lineCheck, standCheck, advanceCheck, advanceOf, handed, listAfterCheck, listAfter}
 use Rattle.pool.specs.Checks.{workerOf, workerCheck}
-use Rattle.pool.specs.Ready.{Stands}
-use Rattle.pool.specs.Reach.{reachAt, storedAt, putting, ownStep, Takes, TakesLine}
+use Rattle.pool.specs.ForProofs.Ready.{Stands}
+use Rattle.pool.specs.ForProofs.Reach.{reachAt, storedAt, putting, ownStep, Takes, TakesLine}
 use Rattle.pool.proofs.Told.{fine-by, refuse-by}
 use Rattle.pool.proofs.Scans.{entry}
 use Rattle.pool.proofs.Standing.{before32, stands, in-use, place-most, ready, last-label}

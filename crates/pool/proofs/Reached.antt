@@ -17,7 +17,7 @@ use Rattle.pool.specs.declared.Pool.{Pool}
 use Rattle.pool.specs.Answers.{Told, none-found, said, afterCheck}
 use Rattle.pool.specs.Record.{takenAt, workerAt, withTaken}
 use Rattle.pool.specs.Steps.{largestVersion, iOf, slotHere, unchanged, collects, puts, goes, ends, line2, line5, line6, line7, line9, line18, line28, versionCheck}
-use Rattle.pool.specs.Reach.{reachAt, storedAt, storing, putting, Takes}
+use Rattle.pool.specs.ForProofs.Reach.{reachAt, storedAt, storing, putting, Takes}
 
 -- ---- the reach with one thing changed
 

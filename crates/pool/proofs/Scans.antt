@@ -13,7 +13,7 @@ use Rattle.basics.proofs.All.{all-of, all-and, all-or-and, all-cong}
 use Rattle.pool.specs.declared.Pool.{Pool}
 use Rattle.pool.specs.Record.{takenAt, employerAt, postedAt, slotAt, stateOf, workerAt, setAt}
 use Rattle.pool.specs.Sound.{countsSound, zeroWorker, guardsBeyond, buffersBeyond, workersBeyond, beyondSound, isLabel, kindsSound, workerIds, idsSound, registersIn, registersSound, soundOf}
-use Rattle.pool.specs.Scans.{most, zeroFrom, untakenFrom, registersFitAt, setWithin, emptyFrom}
+use Rattle.pool.specs.ForProofs.Scans.{most, zeroFrom, untakenFrom, registersFitAt, setWithin, emptyFrom}
 
 -- ---- a scan from the count on
 

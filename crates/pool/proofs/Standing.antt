@@ -21,7 +21,7 @@ use Rattle.pool.specs.Record.{workerAt}
 use Rattle.pool.specs.Sound.{labels}
 use Rattle.pool.specs.Checks.{workerOf, workerCheck}
 use Rattle.pool.specs.Steps.{standCheck}
-use Rattle.pool.specs.Ready.{Ready, Stands}
+use Rattle.pool.specs.ForProofs.Ready.{Ready, Stands}
 use Rattle.pool.proofs.Parts.{parts, sizes-of, placeIn, InUse, worker-in}
 use Rattle.pool.proofs.Checked.{first-both, never, Named, named}
 

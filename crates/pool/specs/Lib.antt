@@ -1,4 +1,5 @@
--- What a reader must believe of the pool: the record, the answers in the paper's numbers, when a record is sound, and each call.
+-- What a reader must believe of the pool: the record, the answers in the paper's numbers, when a record is sound, and each call. `ForProofs` is no
+-- part of it.
 pub mod Record
 pub mod Answers
 pub mod Sound
@@ -7,6 +8,4 @@ pub mod Checks
 pub mod Begins
 pub mod Questions
 pub mod Steps
-pub mod Ready
-pub mod Scans
-pub mod Reach
+pub mod ForProofs

@@ -15,7 +15,7 @@ makeOf w g b =
     unless (inRange w g b) (answering (refused 1 0) (blank 0 0 0))
     (answering accepted (blank w g b))
 
--- what the paper says of a fresh pool; proofs/Fresh.antt shows it of every pool that is made
+-- what the paper says of a fresh pool; the crate `rules` shows it of every pool that is made
 pub record Fresh (w g b : ℕ) (p : Pool) : Type 0 where
   pub workers : p .w ≡ w
   pub guards : p .g ≡ g

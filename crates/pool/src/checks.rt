@@ -17,7 +17,7 @@ use crate::WorkerNo;
 use crate::sound::parts_sound;
 
 // 2, 3, from whether the record is sound and how many workers it has.
-pub fn worker_verdict(sound: bool, count: u32, w: WorkerNo) -> Verdict
+pub(crate) fn worker_verdict(sound: bool, count: u32, w: WorkerNo) -> Verdict
     ensures { λ r. ⌜ verdict r ≡ unless sound (refuse 2 0) (when (ltb (w .0) 1) (refuse 3 0) (when (ltb count (w .0)) (refuse 3 0) fine)) ⌝ }
 {
     if !sound {
@@ -34,7 +34,7 @@ pub fn worker_verdict(sound: bool, count: u32, w: WorkerNo) -> Verdict
 }
 
 // 2, 9, 11, from whether the record is sound, how many buffers it has and their states.
-pub fn take_verdict(sound: bool, count: u32, states: &[u8; 256], b: BufferId) -> Verdict
+pub(crate) fn take_verdict(sound: bool, count: u32, states: &[u8; 256], b: BufferId) -> Verdict
     requires { ⌜ (sound ≡ true → count ≤ 256) ⌝ }
     ensures { λ r. ⌜ verdict r ≡ unless sound (refuse 2 0) (when (ltb (b .0) 1) (refuse 9 0) (when (ltb count (b .0)) (refuse 9 0) (unless (eqb (getD (now (states .entry)) (b .0 - 1) 0) 0) (refuse 11 0) fine))) ⌝ }
 {

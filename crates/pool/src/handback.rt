@@ -12,7 +12,7 @@ use idset::IdSet;
 use idset::next_mark;
 
 // Whether every member is leaving.
-pub fn all_leaving(s: IdSet, states: &[u8; 256]) -> bool
+pub(crate) fn all_leaving(s: IdSet, states: &[u8; 256]) -> bool
     ensures { λ r. ⌜ r ≡ allBelow 256 (λ j. not (memberOf s (suc j)) || eqb (getD (now (states .entry)) j 0) 2) ⌝ }
 {
     let mut ok = true;
@@ -34,7 +34,7 @@ pub fn all_leaving(s: IdSet, states: &[u8; 256]) -> bool
 
 // The members become free, and go into the list, ascending from its start; the rest keeps its contents. No contract knows the length of
 // an array behind a reference, so this one goes by the entries that there are.
-pub fn hand(s: IdSet, states: &mut [u8; 256], out: &mut [u32])
+pub(crate) fn hand(s: IdSet, states: &mut [u8; 256], out: &mut [u32])
     requires { ⌜ sizeOf s ≤ length (now out) ⌝ }
     ensures freed { λ _. ⌜ now (states .exit) ≡ table (length (now (states .entry))) (λ j. when (memberOf s (suc j)) 0 (getD (now (states .entry)) j 0)) ⌝ }
     ensures list { λ _. ⌜ now (out .exit) ≡ handed s (now (out .entry)) ⌝ }

@@ -7,7 +7,7 @@ ghost use Rattle.idset.specs.Members.{noIds};
 ghost use Rattle.worker.specs.Registers.{largest, noWorker};
 ghost use Rattle.pool.specs.Answers.{afterCheck};
 ghost use Rattle.pool.specs.Steps.{line2, line5, line6, line7, line9, unchanged, line18, collects, line28, versionCheck};
-ghost use Rattle.pool.specs.Reach.{storing, putting, ownStep, Takes, TakesLine};
+ghost use Rattle.pool.specs.ForProofs.Reach.{storing, putting, ownStep, Takes, TakesLine};
 use crate::Answer;
 use crate::GuardNo;
 use crate::Moved;

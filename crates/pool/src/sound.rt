@@ -6,7 +6,7 @@ ghost use lib.Dec.{leb};
 ghost use Rattle.basics.specs.Below.{allBelow};
 ghost use Rattle.pool.specs.Record.{recordOf};
 ghost use Rattle.pool.specs.Sound.{isLabel, soundOf};
-ghost use Rattle.pool.specs.Scans.{most, zeroFrom, untakenFrom, registersFit, registersFitAt, setWithin, emptyFrom};
+ghost use Rattle.pool.specs.ForProofs.Scans.{most, zeroFrom, untakenFrom, registersFit, registersFitAt, setWithin, emptyFrom};
 use crate::Pool;
 use idset::IdSet;
 use worker::Worker;

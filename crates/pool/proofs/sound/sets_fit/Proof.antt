@@ -13,7 +13,7 @@ use Rattle.idset.proofs.Members.{Formed, none-formed}
 use Rattle.idset.proofs.Arrays.{formed-each}
 use Rattle.idset.proofs.Within.{none-within, larger-formed, within-larger}
 use Rattle.pool.proofs.Scans.{none-asked, asked}
-use Rattle.pool.specs.Scans.{setWithin, emptyFrom}
+use Rattle.pool.specs.ForProofs.Scans.{setWithin, emptyFrom}
 use Rattle.pool.proofs.sound.sets_fit.Statement.{statement}
 use Rattle.pool.proofs.sound.sets_fit.Tie as tie
 

@@ -7,7 +7,7 @@ use mathlib.Core.Bool.{false, not}
 use lib.ListN.{getD}
 use Rattle.basics.proofs.All.{all-again, all-done}
 use Rattle.pool.proofs.Scans.{none-asked, asked}
-use Rattle.pool.specs.Scans.{untakenFrom}
+use Rattle.pool.specs.ForProofs.Scans.{untakenFrom}
 use Rattle.pool.proofs.sound.untaken_from.Statement.{statement}
 use Rattle.pool.proofs.sound.untaken_from.Tie as tie
 

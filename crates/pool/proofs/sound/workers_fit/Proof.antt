@@ -4,7 +4,7 @@ use Prim.Native.Nat.{_≤_, _-_}
 use mathlib.Core.Path.{_≡_}
 use Rattle.basics.specs.Below.{allBelow}
 use Rattle.basics.proofs.All.{scans, all-done}
-use Rattle.pool.specs.Scans.{registersFitAt}
+use Rattle.pool.specs.ForProofs.Scans.{registersFitAt}
 use Rattle.pool.proofs.sound.workers_fit.Statement.{statement}
 use Rattle.pool.proofs.sound.workers_fit.Tie as tie
 

@@ -7,7 +7,7 @@ use lib.Dec.{eqb}
 use lib.ListN.{getD}
 use Rattle.basics.proofs.All.{all-again, all-done}
 use Rattle.pool.proofs.Scans.{none-zero, asked}
-use Rattle.pool.specs.Scans.{zeroFrom}
+use Rattle.pool.specs.ForProofs.Scans.{zeroFrom}
 use Rattle.pool.proofs.sound.zero_from.Statement.{statement}
 use Rattle.pool.proofs.sound.zero_from.Tie as tie
 

@@ -1,5 +1,4 @@
--- What an advance reads and stores but for the states, as the methods of the labels have it: a worker's registers and set, MAXG, and one guard. It
--- belongs to the proof of the advance and not to what a reader must believe.
+-- What an advance reads and stores but for the states, as the methods of the labels have it: a worker's registers and set, MAXG, and one guard.
 use Prim.Native.Nat.{ℕ, _+_, _<_}
 use mathlib.Core.Path.{_≡_}
 use Rattle.idset.specs.declared.IdSet.{IdSet}
@@ -14,7 +13,7 @@ use Rattle.pool.specs.declared.Pool.{Pool}
 use Rattle.pool.specs.Answers.{Told, answering, said, afterCheck}
 use Rattle.pool.specs.Record.{takenAt, employerAt, postedAt, slotAt, workerAt, setAt, withMaxg, withTaken, withEmployer, withPosted, withSlot, withWorker, withSet}
 use Rattle.pool.specs.Steps.{iOf, lineOf, lineCheck}
-use Rattle.pool.specs.Ready.{Stands}
+use Rattle.pool.specs.ForProofs.Ready.{Stands}
 
 -- what worker k has in reach beside guard i
 abbrev pub reachAt : ℕ → ℕ → Pool → Reach
