@@ -72,10 +72,8 @@ fn cases(seed: u64, calls: u64) -> io::Result<ExitCode> {
 
 fn results(seed: u64, calls: u64) -> io::Result<ExitCode> {
     let mut out = BufWriter::new(io::stdout().lock());
-    finish(cases::play(
-        seed,
-        &mut Stage::new(calls, Way::Results(&mut out)),
-    ))?;
+    let mut stage = Stage::new(calls, Way::Results(&mut out));
+    finish(cases::play(seed, &mut stage).and_then(|()| stage.close()))?;
     out.flush()?;
     Ok(ExitCode::SUCCESS)
 }
@@ -131,11 +129,13 @@ fn answer() -> io::Result<ExitCode> {
     let mut record = record::Record::zero();
     let mut list = Vec::new();
     let mut text = String::new();
+    let mut calls = 0;
     for (n, line) in BufReader::new(io::stdin().lock()).lines().enumerate() {
         match text::read_line(&mut record, &mut list, &line?) {
             None => {
                 writeln!(out, "line {} not understood", n + 1)?;
-                break;
+                out.flush()?;
+                return Ok(ExitCode::SUCCESS);
             }
             Some(None) => {}
             Some(Some(call)) => {
@@ -145,9 +145,13 @@ fn answer() -> io::Result<ExitCode> {
                 out.write_all(text.as_bytes())?;
                 record = outcome.record;
                 list = outcome.list;
+                calls += 1;
             }
         }
     }
+    text.clear();
+    text::write_end(&mut text, calls);
+    out.write_all(text.as_bytes())?;
     out.flush()?;
     Ok(ExitCode::SUCCESS)
 }

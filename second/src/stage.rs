@@ -6,6 +6,7 @@ use crate::cases::Kind;
 use crate::cover::Cover;
 use crate::record::Record;
 use crate::text;
+use std::borrow::Cow;
 use std::io::{self, BufRead, Write};
 
 /// Why the cases end.
@@ -158,25 +159,38 @@ impl<'a> Stage<'a> {
         report.push_str("\nthe result expected:\n");
         report.push_str(&expected);
         report.push_str("\nthe result got:\n");
-        if got.is_empty() {
-            report.push_str("(the output ended)\n");
-        }
-        report.push_str(&String::from_utf8_lossy(&got));
+        report.push_str(&shown(&got));
         Err(Stop::Difference(report))
     }
 
-    /// After the last call nothing may follow.
+    /// After the last result there is the line with the number of calls, and nothing more.
     pub fn close(&mut self) -> Go {
-        if let Way::Check(input) = &mut self.way {
-            let got = read_result(input)?;
-            if !got.is_empty() {
-                let mut report = format!("after call {}: more output:\n", self.made);
-                report.push_str(&String::from_utf8_lossy(&got));
-                return Err(Stop::Difference(report));
+        self.text.clear();
+        text::write_end(&mut self.text, self.made);
+        match &mut self.way {
+            Way::Results(out) => out.write_all(self.text.as_bytes())?,
+            Way::Check(input) => {
+                let got = read_result(input)?;
+                if got != self.text.as_bytes() {
+                    let mut report = format!("after call {}: a difference\n", self.made);
+                    report.push_str("\nthe end expected:\n");
+                    report.push_str(&self.text);
+                    report.push_str("\nthe end got:\n");
+                    report.push_str(&shown(&got));
+                    return Err(Stop::Difference(report));
+                }
             }
+            Way::Cases(_) | Way::Table => {}
         }
         Ok(())
     }
+}
+
+fn shown(got: &[u8]) -> Cow<'_, str> {
+    if got.is_empty() {
+        return "(the output ended)\n".into();
+    }
+    String::from_utf8_lossy(got)
 }
 
 /// The lines up to the next `list` line, that one included, or up to the end.

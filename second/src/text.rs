@@ -4,8 +4,8 @@ use crate::call::{Answer, Call};
 use crate::record::{Guard, Record, Slot, Worker, BUFFERS, GUARDS, WORKERS};
 use std::fmt::Write;
 
-const LINE: usize = 8_000;
-const ENTRIES: usize = 600;
+const LINE: usize = 65_535;
+const NUMBERS: usize = 600;
 
 fn line(out: &mut String, word: &str, numbers: &[u32]) {
     out.push_str(word);
@@ -76,6 +76,11 @@ pub fn write_result(out: &mut String, answer: Answer, record: &Record, list: &[u
     write_list(out, list);
 }
 
+/// The line after the last result: how many calls were made.
+pub fn write_end(out: &mut String, calls: u64) {
+    let _ = writeln!(out, "calls {calls}");
+}
+
 /// Reads one line without its line feed. A line that sets something does so; a line that calls gives the call.
 /// None: the line has not the form.
 pub fn read_line(record: &mut Record, list: &mut Vec<u32>, text: &str) -> Option<Option<Call>> {
@@ -86,6 +91,9 @@ pub fn read_line(record: &mut Record, list: &mut Vec<u32>, text: &str) -> Option
     let word = parts.next()?;
     let numbers: Option<Vec<u32>> = parts.map(number).collect();
     let numbers = numbers?;
+    if numbers.len() > NUMBERS {
+        return None;
+    }
     if let Some(call) = Call::read(word, &numbers) {
         return Some(Some(call));
     }
@@ -138,7 +146,7 @@ fn set(record: &mut Record, list: &mut Vec<u32>, word: &str, numbers: &[u32]) ->
         {
             record.worker_mut(k).set = members.iter().copied().collect();
         }
-        ("list", entries) if entries.len() <= ENTRIES => *list = entries.to_vec(),
+        ("list", entries) => *list = entries.to_vec(),
         _ => return None,
     }
     Some(())
@@ -197,6 +205,23 @@ mod tests {
     }
 
     #[test]
+    fn leading_zeros_count_for_nothing() {
+        let (record, list) = read_all("pool 01 2 003 0\nlist 00 0000000000042\n").unwrap();
+        assert_eq!(record, Record::fresh(1, 2, 3));
+        assert_eq!(list, [0, 42]);
+    }
+
+    #[test]
+    fn a_line_has_at_most_600_numbers_and_65_535_characters() {
+        let numbers = |count| format!("list{}", " 1".repeat(count));
+        assert_eq!(read_all(&numbers(600)).unwrap().1.len(), 600);
+        assert_eq!(read_all(&numbers(601)), None);
+        let zeros = |length: usize| format!("list {}", "0".repeat(length - 5));
+        assert_eq!(read_all(&zeros(65_535)).unwrap().1, [0]);
+        assert_eq!(read_all(&zeros(65_536)), None);
+    }
+
+    #[test]
     fn other_lines_are_not_understood() {
         let bad = [
             "",
@@ -214,6 +239,7 @@ mod tests {
             "states 256",
             "hire",
             "Hire 1",
+            "calls 1",
         ];
         for line in bad {
             let read = read_line(&mut Record::zero(), &mut vec![], line);

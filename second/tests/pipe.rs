@@ -30,6 +30,13 @@ fn results(calls: &str) -> String {
     text(&second(&["results", "3", calls], b""))
 }
 
+/// The results without the line that ends them.
+fn results_alone(calls: &str) -> String {
+    let whole = results(calls);
+    let end = format!("calls {calls}\n");
+    whole.strip_suffix(&end).unwrap().into()
+}
+
 #[test]
 fn the_results_pass() {
     let output = second(&["check", "3", "20000"], results("20000").as_bytes());
@@ -42,7 +49,7 @@ fn the_lines_of_the_cases_give_the_results() {
     let cases = text(&second(&["cases", "3", "5000"], b""));
     let output = second(&["answer"], cases.as_bytes());
     assert!(text(&output) == results("5000"));
-    assert!(cases.lines().all(|line| line.len() <= 8_000));
+    assert!(cases.lines().all(|line| line.len() <= 65_535));
 }
 
 #[test]
@@ -73,17 +80,43 @@ fn the_first_of_two_differences_is_told() {
 
 #[test]
 fn output_that_ends_early_is_a_difference() {
-    let output = second(&["check", "3", "900"], results("899").as_bytes());
+    let output = second(&["check", "3", "900"], results_alone("899").as_bytes());
     assert!(text(&output).starts_with("call 900: a difference\n"));
     assert!(text(&output).ends_with("(the output ended)\n"));
     assert_eq!(output.status.code(), Some(1));
 }
 
 #[test]
+fn results_without_the_number_of_calls_are_a_difference() {
+    let output = second(&["check", "3", "900"], results_alone("900").as_bytes());
+    assert!(text(&output).starts_with("after call 900: a difference\n"));
+    assert!(text(&output).contains("\nthe end expected:\ncalls 900\n"));
+    assert!(text(&output).ends_with("(the output ended)\n"));
+    assert_eq!(output.status.code(), Some(1));
+}
+
+#[test]
+fn another_number_of_calls_is_a_difference() {
+    let other = results_alone("900") + "calls 899\n";
+    let output = second(&["check", "3", "900"], other.as_bytes());
+    assert!(text(&output).starts_with("after call 900: a difference\n"));
+    assert!(text(&output).ends_with("\nthe end got:\ncalls 899\n"));
+    assert_eq!(output.status.code(), Some(1));
+}
+
+#[test]
+fn no_calls_are_counted_too() {
+    assert_eq!(results("0"), "calls 0\n");
+    assert_eq!(text(&second(&["answer"], b"")), "calls 0\n");
+    let cut_off = second(&["answer"], b"leaving\nno call\n");
+    assert!(text(&cut_off).ends_with("list\nline 2 not understood\n"));
+}
+
+#[test]
 fn output_without_its_last_line_feed_is_a_difference() {
     let whole = results("900");
     let output = second(&["check", "3", "900"], whole.trim_end().as_bytes());
-    assert!(text(&output).starts_with("call 900: a difference\n"));
+    assert!(text(&output).starts_with("after call 900: a difference\n"));
     assert_eq!(output.status.code(), Some(1));
 }
 
@@ -91,7 +124,8 @@ fn output_without_its_last_line_feed_is_a_difference() {
 fn more_output_is_a_difference() {
     let more = results("900") + "line 7 not understood\n";
     let output = second(&["check", "3", "900"], more.as_bytes());
-    assert!(text(&output).starts_with("after call 900: more output:\nline 7"));
+    assert!(text(&output).starts_with("after call 900: a difference\n"));
+    assert!(text(&output).ends_with("calls 900\nline 7 not understood\n"));
     assert_eq!(output.status.code(), Some(1));
 }
 
@@ -107,7 +141,7 @@ fn empty_cells_are_named() {
 
 #[test]
 fn a_shorter_run_is_the_beginning_of_a_longer_one() {
-    assert!(results("5000").starts_with(&results("1234")));
+    assert!(results("5000").starts_with(&results_alone("1234")));
 }
 
 #[test]

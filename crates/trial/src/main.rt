@@ -12,6 +12,7 @@ use crate::input::next_line;
 use crate::numbers::read_numbers;
 use crate::output::flush;
 use crate::output::put_answer;
+use crate::output::put_end;
 use crate::output::put_line;
 use crate::output::put_record;
 use crate::parts::Setting;
@@ -23,14 +24,17 @@ use crate::parts::set_worker;
 use crate::words::Word;
 use crate::words::word_length;
 use crate::words::word_of;
-use libc::STDOUT_FILENO;
 use pool::Pool;
+use std::num::wrapping_add_u64;
 
-// The current record, the length of the lent list, the place of the next line in the input buffer and how far that is filled, and how far
-// the output buffer is. `going` ends with the input, or with a line that is not understood.
+// The current record, the length of the lent list, how many calls were made, the place of the next line in the input buffer and how far that is
+// filled, and how far the output buffer is. `going` ends with the input, with a line that is not understood, or with results that could not
+// be written and are lost.
 struct Bench {
     going: bool,
     understood: bool,
+    lost: bool,
+    calls: u64,
     pool: Pool,
     length: usize,
     at: usize,
@@ -79,6 +83,8 @@ impl Bench {
         Bench {
             going: true,
             understood: true,
+            lost: false,
+            calls: 0,
             pool: Pool::blank(0, 0, 0),
             length: 0,
             at: 0,
@@ -91,6 +97,8 @@ impl Bench {
         Bench {
             going: self.going,
             understood: self.understood,
+            lost: self.lost,
+            calls: self.calls,
             pool: pool,
             length: self.length,
             at: self.at,
@@ -123,6 +131,8 @@ impl Bench {
         to = put_line(out, to, b"list", list);
         let mut next = self.with_pool(after);
         next.written = to;
+        // It never wraps: there are at most as many calls as lines.
+        next.calls = wrapping_add_u64(self.calls, 1);
         next
     }
 
@@ -162,15 +172,26 @@ impl Bench {
         if self.written <= HALF {
             return self;
         }
-        flush(out, self.written);
+        let whole = flush(out, self.written);
+        self.going = whole;
+        self.lost = !whole;
         self.written = 0;
         self
     }
 
-    // Writes the results out. The answer is the last line's number if it was not understood, and otherwise 0.
-    fn end(self, lines: u64, out: &[u8]) -> u64 {
-        flush(out, self.written);
-        if self.understood { 0 } else { lines }
+    // Writes the last results out, and the line that says how the input ended. After lost results there is none, so whoever reads it knows
+    // that all before it is there.
+    fn end(self, lines: u64, out: &mut [u8]) {
+        if self.lost {
+            return;
+        }
+        if self.understood {
+            let to = put_end(out, self.written, b"calls", self.calls, b"\n");
+            flush(out, to);
+        } else {
+            let to = put_end(out, self.written, b"line", lines, b" not understood\n");
+            flush(out, to);
+        }
     }
 
     // The next line of the input. Where the input ends, nothing may be left of a line without its end.
@@ -191,13 +212,16 @@ impl Bench {
         }
         self.at = to + 1;
         self.filled = line.filled;
-        self.with_room(out)
-            .line(&input[from..to], numbers, list, out)
+        let ready = self.with_room(out);
+        if ready.lost {
+            return ready;
+        }
+        ready.line(&input[from..to], numbers, list, out)
     }
 }
 
-// The lines one by one. The answer is the number of the line that is not understood, and otherwise 0.
-fn all_lines(input: &mut [u8], numbers: &mut [u32], list: &mut [u32], out: &mut [u8]) -> u64 {
+// The lines one by one.
+fn all_lines(input: &mut [u8], numbers: &mut [u32], list: &mut [u32], out: &mut [u8]) {
     let mut bench = Bench::new();
     let mut lines: u64 = 0;
     while lines < MOST_LINES {
@@ -207,7 +231,6 @@ fn all_lines(input: &mut [u8], numbers: &mut [u32], list: &mut [u32], out: &mut 
         bench = bench.next(input, numbers, list, out);
         lines += 1;
     }
-    0
 }
 
 fn main() {
@@ -215,10 +238,5 @@ fn main() {
     let mut out = io::large_buffer();
     let mut numbers = [0u32; 600];
     let mut list = [0u32; 600];
-    let wrong = all_lines(&mut input, &mut numbers, &mut list, &mut out);
-    if 0 < wrong {
-        io::write_all(STDOUT_FILENO, b"line ");
-        io::print_decimal(STDOUT_FILENO, wrong);
-        io::write_all(STDOUT_FILENO, b" not understood\n");
-    }
+    all_lines(&mut input, &mut numbers, &mut list, &mut out);
 }

@@ -24,11 +24,15 @@ pub fn put_text(out: &mut [u8], at: usize, text: &[u8]) -> usize {
 }
 
 // A space and a number.
-pub fn put_number(out: &mut [u8], at: usize, n: u32) -> usize {
+fn put_long(out: &mut [u8], at: usize, n: u64) -> usize {
     let mut digits = [0u8; 20];
-    let count = io::decimal(n as u64, &mut digits);
+    let count = io::decimal(n, &mut digits);
     let to = put_text(out, at, b" ");
     put_text(out, to, &digits[..count])
+}
+
+pub fn put_number(out: &mut [u8], at: usize, n: u32) -> usize {
+    put_long(out, at, n as u64)
 }
 
 pub fn put_numbers(out: &mut [u8], at: usize, numbers: &[u32]) -> usize {
@@ -193,10 +197,17 @@ pub fn put_record(out: &mut [u8], at: usize, pool: Pool) -> usize {
     put_sets(out, to, sets)
 }
 
-// Writes what the buffer has up to a place.
-pub fn flush(out: &[u8], at: usize) {
+// The line that ends the output: a word, a number of calls or lines, and what follows that.
+pub fn put_end(out: &mut [u8], at: usize, word: &[u8], n: u64, rest: &[u8]) -> usize {
+    let mut to = put_text(out, at, word);
+    to = put_long(out, to, n);
+    put_text(out, to, rest)
+}
+
+// Writes what the buffer has up to a place, and answers whether all of it was written.
+pub fn flush(out: &[u8], at: usize) -> bool {
     if out.len() < at {
-        return;
+        return false;
     }
-    io::write_all(STDOUT_FILENO, &out[..at]);
+    io::write_all(STDOUT_FILENO, &out[..at])
 }
