@@ -18,21 +18,20 @@ use Rattle.pool.specs.declared.Pool.{Pool}
 use Rattle.pool.specs.declared.WorkerNo.{WorkerNo}
 use Rattle.pool.specs.declared.GuardNo.{GuardNo}
 use Rattle.pool.specs.declared.BufferId.{BufferId}
-use Rattle.pool.specs.Answers.{Check, fine, refuse, Told, afterCheck}
+use Rattle.pool.specs.Answers.{Check, fine, Told, afterCheck}
 use Rattle.pool.specs.Record.{workerAt, withWorker, withStates}
 use Rattle.pool.specs.Sound.{isLabel, soundOf}
 use Rattle.pool.specs.Checks.{beginCheck, listCheck, fireCheck, postCheck, giveUpCheck, takeCheck, askCheck}
 use Rattle.pool.specs.Begins.{leaving, hireOf, fireOf, postOf, giveUpOf, takeOf, askOf}
 use Rattle.pool.proofs.Parts.{Parts, parts, whole, threeAt, worker-in}
 use Rattle.pool.proofs.Checked.{begun, fires, posts, gives-up, takes}
+use Rattle.rules.proofs.Outcomes.{after-both}
 use Rattle.rules.proofs.ListChecked.{listed-buffer}
 use Rattle.rules.proofs.Kept.{worker-kept, set-kept, employer-kept, some-states-kept, state-kept}
 
 -- a refusal hands the record back
 pub after-kept : (c : Check) (p : Pool) (d : Told) → soundOf p ≡ true → (c ≡ fine → Parts (d .pool)) → soundOf (afterCheck c p d .pool) ≡ true
-unfolding afterCheck
-after-kept fine p d h f = whole (f refl)
-after-kept (refuse n place) p d h f = h
+after-kept c p d h f = after-both (λ t. soundOf (t .pool) ≡ true) c p d (λ e. whole (f e)) (λ n place e. h)
 
 -- a worker of the pool sent to a label that lets its attempts be, with i and v in range
 module _ {p : Pool} (s : Parts p) (k : ℕ) (l : k < p .w) where

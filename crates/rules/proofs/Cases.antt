@@ -1,102 +1,113 @@
--- The starred cases come out as the paper says: antt runs the rules on each. Assumes nothing.
-use mathlib.Core.Path.{_≡_, refl, ap, _∙_}
+-- The starred cases come out as the paper says: antt runs the rules on each, from a start that is shown to be sound. Assumes nothing.
+use mathlib.Core.Path.{_≡_, refl}
 use mathlib.Core.Bool.{true}
-use Rattle.basics.specs.Pick.{when, unless}
-use Rattle.basics.specs.Below.{allBelow, anyBelow, countBelow, table}
-use Rattle.idset.specs.Members.{digit, isId, memberOf, pack, wordOf, setOf, noIds, withOf, withoutOf, sizeOf, withinOf, idsOf, above, membersOf}
-use Rattle.worker.specs.Steps.{at22}
 use Rattle.pool.specs.declared.Pool.{Pool}
-use Rattle.pool.specs.Answers.{first, afterCheck}
 use Rattle.pool.specs.Record.{blank, withTaken, withEmployer, withPosted, withSlot, withState}
-use Rattle.pool.specs.Sound.{soundOf, beyondSound, kindsSound, idsSound, registersSound}
-use Rattle.pool.specs.Checks.{workerCheck, beginCheck, guardCheck, idCheck, postCheck, entryCheck, listCheck, giveUpCheck, takeCheck}
-use Rattle.pool.specs.Begins.{hireOf, postOf, giveUpOf, takeOf}
-use Rattle.pool.specs.Steps.{puts, ends, line2, line18, line28, lineOf, handCheck, lineCheck, standCheck, advanceCheck, advanceOf, handed, listAfterCheck, listAfter}
-use Rattle.rules.specs.Calls.{call, listOf, after}
-use Rattle.rules.specs.Cases.{Hold, all-held, holds, answers, listAtEnd, left, shownFrom, shown, advances, case1, case2, case3, case4, case5, case6, case7, case8, case9a, case9b, case10, starred}
+use Rattle.pool.specs.Sound.{soundOf}
+use Rattle.rules.specs.Cases.{Case, Hold, all-held, holds, answers, listAtEnd, left, shownBy, shown, advances, case1, case2, case3, case4, case5, case6, case7, case8, case9a, case9b, case10, starred}
+use Rattle.rules.proofs.Fresh.{made-sound}
+use Rattle.rules.proofs.CallsKept.{run-sound}
+use Rattle.rules.proofs.SoundRuns.{soundAfter, soundSeen, sound-after, sound-seen, running}
 
-show-case1 : shown case1 ≡ case1 .expected
-unfolding when unless allBelow anyBelow countBelow table digit isId memberOf pack wordOf setOf noIds withOf withoutOf sizeOf withinOf idsOf above membersOf at22 first afterCheck soundOf beyondSound kindsSound idsSound registersSound workerCheck beginCheck guardCheck idCheck postCheck entryCheck listCheck giveUpCheck takeCheck hireOf postOf giveUpOf takeOf puts ends line2 line18 line28 lineOf handCheck lineCheck standCheck advanceCheck advanceOf handed listAfterCheck listAfter call listOf after answers listAtEnd shownFrom advances shown case1
-show-case1 = refl
+-- what a case computes by
+playing : Unit {0}
+unfolding running answers listAtEnd shownBy advances case1 case2 case3 case4 case5 case6 case7 case8 case9a case9b case10
+playing = tt
 
-show-case3 : shown case3 ≡ case3 .expected
-unfolding when unless allBelow anyBelow countBelow table digit isId memberOf pack wordOf setOf noIds withOf withoutOf sizeOf withinOf idsOf above membersOf at22 first afterCheck soundOf beyondSound kindsSound idsSound registersSound workerCheck beginCheck guardCheck idCheck postCheck entryCheck listCheck giveUpCheck takeCheck hireOf postOf giveUpOf takeOf puts ends line2 line18 line28 lineOf handCheck lineCheck standCheck advanceCheck advanceOf handed listAfterCheck listAfter call listOf after answers listAtEnd shownFrom advances shown case3
-show-case3 = refl
+-- a case whose start is the sound record p
+show : (c : Case) (p : Pool) → c .start ≡ p → soundOf p ≡ true
+    → shownBy (soundSeen (c .calls) p) (soundAfter (c .calls) p) (c .looked-at) ≡ c .expected → shown c ≡ c .expected
+unfolding shown left
+show c p start sound e = rw (start, sound-seen (c .calls) p sound, sound-after (c .calls) p sound) e
 
-show-case4 : shown case4 ≡ case4 .expected
-unfolding when unless allBelow anyBelow countBelow table digit isId memberOf pack wordOf setOf noIds withOf withoutOf sizeOf withinOf idsOf above membersOf at22 first afterCheck soundOf beyondSound kindsSound idsSound registersSound workerCheck beginCheck guardCheck idCheck postCheck entryCheck listCheck giveUpCheck takeCheck hireOf postOf giveUpOf takeOf puts ends line2 line18 line28 lineOf handCheck lineCheck standCheck advanceCheck advanceOf handed listAfterCheck listAfter call listOf after answers listAtEnd shownFrom advances shown case4
-show-case4 = refl
+leaves : (c : Case) (p q : Pool) → c .start ≡ p → soundOf p ≡ true → soundAfter (c .calls) p ≡ q → left c ≡ q
+unfolding left
+leaves c p q start sound e = rw (start, sound-after (c .calls) p sound) e
 
-show-case8 : shown case8 ≡ case8 .expected
-unfolding when unless allBelow anyBelow countBelow table digit isId memberOf pack wordOf setOf noIds withOf withoutOf sizeOf withinOf idsOf above membersOf at22 first afterCheck soundOf beyondSound kindsSound idsSound registersSound workerCheck beginCheck guardCheck idCheck postCheck entryCheck listCheck giveUpCheck takeCheck hireOf postOf giveUpOf takeOf puts ends line2 line18 line28 lineOf handCheck lineCheck standCheck advanceCheck advanceOf handed listAfterCheck listAfter call listOf after answers listAtEnd shownFrom advances shown case8
-show-case8 = refl
+left-sound : (c : Case) (p q : Pool) → c .start ≡ p → soundOf p ≡ true → left c ≡ q → soundOf q ≡ true
+unfolding left
+left-sound c p q start sound e = rw (← e, start) (run-sound (c .calls) p sound)
 
-show-case9a : shown case9a ≡ case9a .expected
-unfolding when unless allBelow anyBelow countBelow table digit isId memberOf pack wordOf setOf noIds withOf withoutOf sizeOf withinOf idsOf above membersOf at22 first afterCheck soundOf beyondSound kindsSound idsSound registersSound workerCheck beginCheck guardCheck idCheck postCheck entryCheck listCheck giveUpCheck takeCheck hireOf postOf giveUpOf takeOf puts ends line2 line18 line28 lineOf handCheck lineCheck standCheck advanceCheck advanceOf handed listAfterCheck listAfter call listOf after answers listAtEnd shownFrom advances shown case9a
-show-case9a = refl
+-- ---- fresh pools
 
-show-case9b : shown case9b ≡ case9b .expected
-unfolding when unless allBelow anyBelow countBelow table digit isId memberOf pack wordOf setOf noIds withOf withoutOf sizeOf withinOf idsOf above membersOf at22 first afterCheck soundOf beyondSound kindsSound idsSound registersSound workerCheck beginCheck guardCheck idCheck postCheck entryCheck listCheck giveUpCheck takeCheck hireOf postOf giveUpOf takeOf puts ends line2 line18 line28 lineOf handCheck lineCheck standCheck advanceCheck advanceOf handed listAfterCheck listAfter call listOf after answers listAtEnd shownFrom advances shown case9b
-show-case9b = refl
+abbrev fresh : Pool
+fresh = blank 2 2 3
 
-show-case10 : shown case10 ≡ case10 .expected
-unfolding when unless allBelow anyBelow countBelow table digit isId memberOf pack wordOf setOf noIds withOf withoutOf sizeOf withinOf idsOf above membersOf at22 first afterCheck soundOf beyondSound kindsSound idsSound registersSound workerCheck beginCheck guardCheck idCheck postCheck entryCheck listCheck giveUpCheck takeCheck hireOf postOf giveUpOf takeOf puts ends line2 line18 line28 lineOf handCheck lineCheck standCheck advanceCheck advanceOf handed listAfterCheck listAfter call listOf after answers listAtEnd shownFrom advances shown case10
-show-case10 = refl
+fresh-sound : soundOf fresh ≡ true
+fresh-sound = made-sound 2 2 3 refl
 
--- ---- cases that go on where another ended
+show1 : shown case1 ≡ case1 .expected
+unfolding playing
+show1 = show case1 fresh refl fresh-sound refl
 
--- case 1 leaves guard 0 with worker 1
+show4 : shown case4 ≡ case4 .expected
+unfolding playing
+show4 = show case4 fresh refl fresh-sound refl
+
+-- ---- where case 1 ended: guard 0 is with worker 1
+
 abbrev pub hired : Pool
-hired = withTaken 0 true (withEmployer 0 1 (blank 2 2 3))
+hired = withTaken 0 true (withEmployer 0 1 fresh)
 
 pub left1 : left case1 ≡ hired
-unfolding when unless allBelow anyBelow countBelow table digit isId memberOf pack wordOf setOf noIds withOf withoutOf sizeOf withinOf idsOf above membersOf at22 first afterCheck soundOf beyondSound kindsSound idsSound registersSound workerCheck beginCheck guardCheck idCheck postCheck entryCheck listCheck giveUpCheck takeCheck hireOf postOf giveUpOf takeOf puts ends line2 line18 line28 lineOf handCheck lineCheck standCheck advanceCheck advanceOf handed listAfterCheck listAfter call listOf after answers listAtEnd shownFrom advances left case1
-left1 = refl
+unfolding playing
+left1 = leaves case1 fresh hired refl fresh-sound refl
 
-run2 : shownFrom hired (case2 .calls) 1 ≡ case2 .expected
-unfolding when unless allBelow anyBelow countBelow table digit isId memberOf pack wordOf setOf noIds withOf withoutOf sizeOf withinOf idsOf above membersOf at22 first afterCheck soundOf beyondSound kindsSound idsSound registersSound workerCheck beginCheck guardCheck idCheck postCheck entryCheck listCheck giveUpCheck takeCheck hireOf postOf giveUpOf takeOf puts ends line2 line18 line28 lineOf handCheck lineCheck standCheck advanceCheck advanceOf handed listAfterCheck listAfter call listOf after answers listAtEnd shownFrom advances case2
-run2 = refl
+pub hired-sound : soundOf hired ≡ true
+unfolding playing
+hired-sound = left-sound case1 fresh hired refl fresh-sound left1
 
-run5 : shownFrom hired (case5 .calls) 1 ≡ case5 .expected
-unfolding when unless allBelow anyBelow countBelow table digit isId memberOf pack wordOf setOf noIds withOf withoutOf sizeOf withinOf idsOf above membersOf at22 first afterCheck soundOf beyondSound kindsSound idsSound registersSound workerCheck beginCheck guardCheck idCheck postCheck entryCheck listCheck giveUpCheck takeCheck hireOf postOf giveUpOf takeOf puts ends line2 line18 line28 lineOf handCheck lineCheck standCheck advanceCheck advanceOf handed listAfterCheck listAfter call listOf after answers listAtEnd shownFrom advances case5
-run5 = refl
+show2 : shown case2 ≡ case2 .expected
+unfolding playing
+show2 = show case2 hired left1 hired-sound refl
 
--- case 5 leaves guard 0 posted on buffer 1, which is leaving and in its slot
+show5 : shown case5 ≡ case5 .expected
+unfolding playing
+show5 = show case5 hired left1 hired-sound refl
+
+-- ---- where case 5 ended: guard 0 is posted on buffer 1, which is leaving and in its slot
+
 abbrev pub kept : Pool
 kept = withSlot 0 (record { id = 1; version = 1 }) (withPosted 0 1 (withState 1 2 hired))
 
-end5 : after (case5 .calls) hired ≡ kept
-unfolding when unless allBelow anyBelow countBelow table digit isId memberOf pack wordOf setOf noIds withOf withoutOf sizeOf withinOf idsOf above membersOf at22 first afterCheck soundOf beyondSound kindsSound idsSound registersSound workerCheck beginCheck guardCheck idCheck postCheck entryCheck listCheck giveUpCheck takeCheck hireOf postOf giveUpOf takeOf puts ends line2 line18 line28 lineOf handCheck lineCheck standCheck advanceCheck advanceOf handed listAfterCheck listAfter call listOf after answers listAtEnd shownFrom advances case5
-end5 = refl
-
 pub left5 : left case5 ≡ kept
-unfolding left case5
-left5 = ap (after (case5 .calls)) left1 ∙ end5
+unfolding playing
+left5 = leaves case5 hired kept left1 hired-sound refl
 
-run6 : shownFrom kept (case6 .calls) 1 ≡ case6 .expected
-unfolding when unless allBelow anyBelow countBelow table digit isId memberOf pack wordOf setOf noIds withOf withoutOf sizeOf withinOf idsOf above membersOf at22 first afterCheck soundOf beyondSound kindsSound idsSound registersSound workerCheck beginCheck guardCheck idCheck postCheck entryCheck listCheck giveUpCheck takeCheck hireOf postOf giveUpOf takeOf puts ends line2 line18 line28 lineOf handCheck lineCheck standCheck advanceCheck advanceOf handed listAfterCheck listAfter call listOf after answers listAtEnd shownFrom advances case6
-run6 = refl
+pub kept-sound : soundOf kept ≡ true
+unfolding playing
+kept-sound = left-sound case5 hired kept left1 hired-sound left5
 
-run7 : shownFrom kept (case7 .calls) 1 ≡ case7 .expected
-unfolding when unless allBelow anyBelow countBelow table digit isId memberOf pack wordOf setOf noIds withOf withoutOf sizeOf withinOf idsOf above membersOf at22 first afterCheck soundOf beyondSound kindsSound idsSound registersSound workerCheck beginCheck guardCheck idCheck postCheck entryCheck listCheck giveUpCheck takeCheck hireOf postOf giveUpOf takeOf puts ends line2 line18 line28 lineOf handCheck lineCheck standCheck advanceCheck advanceOf handed listAfterCheck listAfter call listOf after answers listAtEnd shownFrom advances case7
-run7 = refl
+show6 : shown case6 ≡ case6 .expected
+unfolding playing
+show6 = show case6 kept left5 kept-sound refl
 
-show-case2 : shown case2 ≡ case2 .expected
-unfolding shown case2
-show-case2 = ap (λ (p : Pool). shownFrom p (case2 .calls) 1) left1 ∙ run2
+show7 : shown case7 ≡ case7 .expected
+unfolding playing
+show7 = show case7 kept left5 kept-sound refl
 
-show-case5 : shown case5 ≡ case5 .expected
-unfolding shown case5
-show-case5 = ap (λ (p : Pool). shownFrom p (case5 .calls) 1) left1 ∙ run5
+-- ---- records made for the case
 
-show-case6 : shown case6 ≡ case6 .expected
-unfolding shown case6
-show-case6 = ap (λ (p : Pool). shownFrom p (case6 .calls) 1) left5 ∙ run6
+show3 : shown case3 ≡ case3 .expected
+unfolding playing
+show3 = show case3 (case3 .start) refl refl refl
 
-show-case7 : shown case7 ≡ case7 .expected
-unfolding shown case7
-show-case7 = ap (λ (p : Pool). shownFrom p (case7 .calls) 1) left5 ∙ run7
+show8 : shown case8 ≡ case8 .expected
+unfolding playing
+show8 = show case8 (case8 .start) refl refl refl
+
+show9a : shown case9a ≡ case9a .expected
+unfolding playing
+show9a = show case9a (case9a .start) refl refl refl
+
+show9b : shown case9b ≡ case9b .expected
+unfolding playing
+show9b = show case9b (case9b .start) refl refl refl
+
+show10 : shown case10 ≡ case10 .expected
+unfolding playing
+show10 = show case10 (case10 .start) refl refl refl
 
 pub starred-hold : Hold starred
 starred-hold =
-    holds show-case1 (holds show-case2 (holds show-case3 (holds show-case4 (holds show-case5 (holds show-case6 (holds show-case7 (holds show-case8 (holds show-case9a (holds show-case9b (holds show-case10 all-held))))))))))
+    holds show1 (holds show2 (holds show3 (holds show4 (holds show5 (holds show6 (holds show7 (holds show8 (holds show9a (holds show9b (holds show10 all-held))))))))))

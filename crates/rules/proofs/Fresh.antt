@@ -1,5 +1,5 @@
--- A pool that is made is the paper's fresh pool, and sound; the all-zero record of a refused make is not sound. Assumes nothing.
-use mathlib.Core.Path.{_≡_, refl, sym, ap, ap₂, _∙_}
+-- A pool that is made is the paper's fresh pool, and sound; the all-zero record of a refused making is not sound. Assumes nothing.
+use mathlib.Core.Path.{_≡_, refl, ap, ap₂, _∙_}
 use mathlib.Core.Bool.{Bool, true, false, _&&_, _||_, or-true}
 use mathlib.Core.List.{[], _∷_}
 use Prim.Native.Nat.{ℕ, zero, suc, _-_, _<_}
@@ -12,14 +12,15 @@ use Rattle.basics.specs.Below.{anyBelow}
 use Rattle.basics.proofs.All.{all-of}
 use Rattle.basics.proofs.Truth.{each}
 use Rattle.idset.specs.declared.IdSet.{IdSet}
-use Rattle.idset.specs.Members.{memberOf, noIds, withinOf}
+use Rattle.idset.specs.Members.{memberOf, noIds}
 use Rattle.idset.proofs.Members.{member-none}
-use Rattle.idset.proofs.Within.{within-all}
+use Rattle.idset.proofs.Within.{none-within}
 use Rattle.worker.specs.Registers.{noWorker}
-use Rattle.pool.specs.Answers.{answering, accepted}
+use Rattle.pool.specs.Answers.{answering, accepted, refused}
 use Rattle.pool.specs.Record.{setAt, blank}
 use Rattle.pool.specs.Sound.{inRange, guardsBeyond, buffersBeyond, workersBeyond, beyondSound, kindsSound, idsSound, registersSound, soundOf}
 use Rattle.pool.specs.Make.{makeOf, Fresh}
+use Rattle.rules.specs.Fresh.{MadeFresh}
 
 pub made : (w g b : ℕ) → inRange w g b ≡ true → makeOf w g b ≡ answering accepted (blank w g b)
 unfolding makeOf unless
@@ -53,9 +54,6 @@ blank-fresh w g b =
       idle = λ k. repeated 8 k noWorker;
       empty = λ k id h. ap (λ (s : IdSet). memberOf s id) (set-of-blank w g b k h) ∙ member-none id;
     }
-
-pub none-within : (a : ℕ) → withinOf noIds a ≡ true
-none-within a = within-all noIds a (λ b m. absurd (let z : _≡_ {A = Bool} false true = sym (member-none b) ∙ m in let n : _≡_ {A = ℕ} 0 1 = cc in omega arith))
 
 or-right : (t x : Bool) → x ≡ true → (t || x) ≡ true
 or-right t x e = ap (λ (y : Bool). t || y) e ∙ or-true t
@@ -94,6 +92,23 @@ module _ (w g b : ℕ) (h : inRange w g b ≡ true) where
   unfolding soundOf
   made-sound = ap₂ _&&_ (ap₂ _&&_ (ap₂ _&&_ (ap₂ _&&_ (ap₂ _&&_ h some) made-beyond) made-kinds) made-ids) made-registers
 
-pub zero-not-sound : soundOf (blank 0 0 0) ≡ false
+-- ---- what making hands back
+
+unmade : (w g b : ℕ) → inRange w g b ≡ false → makeOf w g b ≡ answering (refused 1 0) (blank 0 0 0)
+unfolding makeOf unless
+unmade w g b h = rw h
+
+zero-not-sound : soundOf (blank 0 0 0) ≡ false
 unfolding soundOf
 zero-not-sound = refl
+
+pub made-fresh : MadeFresh
+made-fresh =
+    record {
+      in-range = λ w g b h.
+          let e = made w g b h in
+          record { answer = rw e; fresh = rw e (blank-fresh w g b); sound = rw e (made-sound w g b h) };
+      out-of-range = λ w g b h.
+          let e = unmade w g b h in
+          record { answer = rw e; all-zero = rw e (blank-fresh 0 0 0); unsound = rw e zero-not-sound };
+    }

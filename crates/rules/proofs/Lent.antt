@@ -6,8 +6,8 @@ use Prim.Native.Nat.{ℕ, zero, suc, _-_, _≤_}
 use native.Mathlib.Omega.{arith}
 use lib.Dec.{eqb}
 use lib.ListN.{getD, set, length}
-use borrow.Author.Tests.{le-ltb, ne-eqb}
-use Rattle.basics.specs.Pick.{when, unless}
+use borrow.Author.Tests.{ne-eqb}
+use Rattle.basics.specs.Pick.{when}
 use Rattle.worker.specs.declared.Worker.{Worker}
 use Rattle.worker.specs.declared.Stepped.{Stepped}
 use Rattle.worker.specs.Registers.{noWorker}
@@ -18,12 +18,13 @@ use Rattle.pool.specs.declared.WorkerNo.{WorkerNo}
 use Rattle.pool.specs.Answers.{Told, fine, first, afterCheck}
 use Rattle.pool.specs.Record.{workerAt}
 use Rattle.pool.specs.Sound.{soundOf}
-use Rattle.pool.specs.Checks.{workerOf, workerCheck}
+use Rattle.pool.specs.Checks.{workerOf}
 use Rattle.pool.specs.Steps.{puts, lineOf, lineCheck, standCheck, advanceCheck, advanceOf, listAfterCheck, listAfter}
-use Rattle.pool.specs.Ready.{Stands}
+use Rattle.pool.specs.ForProofs.Ready.{Stands}
 use Rattle.pool.proofs.Standing.{ready, last-label}
 use Rattle.rules.specs.Lent.{alone, Agree, Lent}
 use Rattle.rules.proofs.EachLine.{by-line}
+use Rattle.rules.proofs.Passed.{stand-passes}
 
 -- a busy worker has an entry, so what is put there is found there
 put-there : (l : List Worker) (k : ℕ) (x : Worker) → (getD l k noWorker .label ≡ 0 → ⊥) → getD (set l k x) k noWorker ≡ x
@@ -91,8 +92,7 @@ module _ (p : Pool) (w : WorkerNo) (out : List ℕ) (sound : soundOf p ≡ true)
   stood = record { sound = sound; k-below = omega arith; busy = busy }
 
   may-stand : standCheck p w ≡ fine
-  unfolding standCheck workerCheck first unless when
-  may-stand = rw (sound, le-ltb (w .0) 1 some, le-ltb (p .w) (w .0) most, ne-eqb (workerAt p k .label) 0 busy)
+  may-stand = stand-passes p (w .0) _ (record { worker = record { sound = sound; some = some; most = most }; label = refl }) busy
 
   may-advance : advanceCheck p w (length out) ≡ fine
   unfolding advanceCheck first

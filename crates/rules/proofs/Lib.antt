@@ -1,14 +1,28 @@
--- What is shown of the pool's rules: `specs/` states the first three, the files below say what each of the others states.
-pub mod Determined
-pub mod Cases
-pub mod Lent
--- a made pool; a sound record stays sound
+-- The proofs of what specs/ states.
+
+-- a made pool; a sound record stays sound, and the arrays keep their lengths
 pub mod Fresh
 pub mod ListChecked
+pub mod Outcomes
+pub mod EachLine
 pub mod Kept
 pub mod BeginsKept
-pub mod EachLine
 pub mod StepsKept
+pub mod CallsKept
+pub mod Shaped
 -- what a call leaves as it was
 pub mod StepsFrame
 pub mod Refused
+-- runs, and the starred cases
+pub mod Appended
+pub mod Computing
+pub mod SoundRuns
+pub mod Cases
+-- the sentences of the paper
+pub mod Passed
+pub mod BeginSentences
+pub mod AdvanceSentences
+pub mod QuestionSentences
+pub mod Sentences
+-- a worker's registers advanced alone
+pub mod Lent

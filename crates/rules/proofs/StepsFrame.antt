@@ -6,6 +6,7 @@ use Prim.Native.Nat.{ℕ, suc, _-_, _≤_}
 use native.Mathlib.Omega.{arith}
 use lib.ListN.{getD, length}
 use lib.Seq.{getD-set-other}
+use borrow.Author.Tests.{ne-eqb}
 use Rattle.basics.specs.Pick.{when}
 use Rattle.basics.proofs.Picks.{when-no, when-both, unless-both}
 use Rattle.basics.proofs.Table.{table-at}
@@ -14,28 +15,17 @@ use Rattle.idset.specs.Members.{memberOf}
 use Rattle.worker.specs.declared.Slot.{Slot}
 use Rattle.pool.specs.declared.Pool.{Pool}
 use Rattle.pool.specs.declared.WorkerNo.{WorkerNo}
-use Rattle.pool.specs.Answers.{Check, fine, refuse, Told, afterCheck}
-use Rattle.pool.specs.Record.{takenAt, employerAt, postedAt, slotAt, stateOf, workerAt, setAt, withSlot}
-use Rattle.pool.specs.Steps.{iOf, puts, ends, line2, line18, line28, freed, lineOf, standCheck, advanceCheck, advanceOf}
-use Rattle.pool.specs.Ready.{Stands}
+use Rattle.pool.specs.Answers.{Check, fine, refuse, Told}
+use Rattle.pool.specs.Record.{slotAt, stateOf, workerAt, setAt, withSlot}
+use Rattle.pool.specs.Checks.{workerOf}
+use Rattle.pool.specs.Steps.{puts, ends, line2, line18, line28, freed, lineOf, standCheck, advanceCheck, advanceOf, listAfterCheck, listAfter}
+use Rattle.pool.specs.ForProofs.Ready.{Stands}
 use Rattle.pool.proofs.Checked.{first-both}
 use Rattle.pool.proofs.Standing.{stands, last-label}
+use Rattle.rules.specs.Calls.{call, listOf}
+use Rattle.rules.specs.Frame.{Frame, AdvanceFrame}
+use Rattle.rules.proofs.Outcomes.{after-both}
 use Rattle.rules.proofs.EachLine.{by-line}
-
--- q is p after an advance of worker k + 1: the counts are the same, and so are MAXG but at 5, every other worker, every guard but i, and every
--- buffer but those of the set at 32
-pub record Frame (p : Pool) (k : ℕ) (q : Pool) : Type 0 where
-  pub w : q .w ≡ p .w
-  pub g : q .g ≡ p .g
-  pub b : q .b ≡ p .b
-  pub maxg : (workerAt p k .label ≡ 5 → ⊥) → q .maxg ≡ p .maxg
-  pub worker : (j : ℕ) → (j ≡ k → ⊥) → workerAt q j ≡ workerAt p j
-  pub set : (j : ℕ) → (j ≡ k → ⊥) → setAt q j ≡ setAt p j
-  pub taken : (i : ℕ) → (i ≡ iOf p k → ⊥) → takenAt q i ≡ takenAt p i
-  pub employer : (i : ℕ) → (i ≡ iOf p k → ⊥) → employerAt q i ≡ employerAt p i
-  pub posted : (i : ℕ) → (i ≡ iOf p k → ⊥) → postedAt q i ≡ postedAt p i
-  pub slot : (i : ℕ) → (i ≡ iOf p k → ⊥) → slotAt q i ≡ slotAt p i
-  pub state : (id : ℕ) → 1 ≤ id → id ≤ 256 → (workerAt p k .label ≡ 32 → memberOf (setAt p k) id ≡ true → ⊥) → stateOf q id ≡ stateOf p id
 
 slot-other : (p : Pool) (i : ℕ) (s : Slot) (j : ℕ) → (j ≡ i → ⊥) → slotAt (withSlot i s p) j ≡ slotAt p j
 slot-other p i s j other = rw (getD-set-other (p .«slot_id») i j (s .id) 0 other, getD-set-other (p .«slot_version») i j (s .version) 0 other)
@@ -82,13 +72,25 @@ module _ (p : Pool) (k : ℕ) where
         at32 = λ none. search (frames, state-other (last-label s none));
       })
 
-  after-framed : (c : Check) (d : Told) → (c ≡ fine → Framed d) → Framed (afterCheck c p d)
-  unfolding afterCheck
-  after-framed fine d f = f refl
-  after-framed (refuse n place) d f = search frames
+-- ---- the call
 
--- accepted or refused
-pub advance-frame : (p : Pool) (w : WorkerNo) (out : List ℕ) → Frame p (w .0 - 1) (advanceOf p w out .pool)
-unfolding advanceOf advanceCheck
-advance-frame p w out =
-    after-framed p (w .0 - 1) (advanceCheck p w (length out)) _ (λ e. lines-framed p (w .0 - 1) (stands p w (first-both (standCheck p w) _ e .0)))
+list-same : (c : Check) (old new : List ℕ) → old ≡ new → listAfterCheck c old new ≡ old
+unfolding listAfterCheck
+list-same fine old new e = sym e
+list-same (refuse m at) old new e = refl
+
+module _ (p : Pool) (w : WorkerNo) (out : List ℕ) where
+  pub record-framed : Frame p (w .0 - 1) (advanceOf p w out .pool)
+  unfolding advanceOf advanceCheck
+  record-framed =
+      after-both (Framed p (w .0 - 1)) (advanceCheck p w (length out)) p _
+      (λ e. lines-framed p (w .0 - 1) (stands p w (first-both (standCheck p w) _ e .0)))
+      (λ n place e. search frames)
+
+  pub list-framed : (workerOf p w .label ≡ 32 → ⊥) → listAfter p w out ≡ out
+  unfolding listAfter
+  list-framed other = list-same (advanceCheck p w (length out)) out _ (when-no _ out _ out (ne-eqb (workerOf p w .label) 32 other) refl)
+
+pub advance-frame : AdvanceFrame
+unfolding call listOf
+advance-frame = record { record-framed = λ w out p. record-framed p _ out; list-framed = λ w out p. list-framed p _ out }

@@ -14,7 +14,7 @@ use Rattle.basics.proofs.Picks.{when-both, unless-both}
 use Rattle.basics.proofs.Truth.{or-cases, by-order}
 use Rattle.idset.specs.declared.IdSet.{IdSet}
 use Rattle.idset.specs.Members.{memberOf, noIds, withinOf, sizeOf}
-use Rattle.idset.proofs.Within.{within-true, with-within, without-within}
+use Rattle.idset.proofs.Within.{within-true, none-within, with-within, without-within}
 use Rattle.worker.specs.declared.Worker.{Worker}
 use Rattle.worker.specs.Registers.{noWorker, to, withI, withV, withH, withMax}
 use Rattle.worker.specs.Steps.{at13, failed, lastFailed, at22, at31}
@@ -24,11 +24,10 @@ use Rattle.pool.specs.Answers.{Said, Told, none-found, guard, fired, posted, ba
 use Rattle.pool.specs.Record.{takenAt, workerAt, setAt, withMaxg, withSet}
 use Rattle.pool.specs.Sound.{isLabel, soundOf}
 use Rattle.pool.specs.Steps.{iOf, lastGuard, postedHere, slotHere, unchanged, refilled, collects, puts, goes, ends, line2, line4, line5, line6, line7, line9, line12, line13, line15, line18, line22, line25, line28, line31, line32, lineOf, standCheck, advanceCheck, advanceOf}
-use Rattle.pool.specs.Ready.{Stands}
+use Rattle.pool.specs.ForProofs.Ready.{Stands}
 use Rattle.pool.proofs.Parts.{Parts, parts, whole, sizes-of, placeIn, threeAt, triesIn, worker-in}
 use Rattle.rules.proofs.Kept.{guard-in, maxg-kept, taken-kept, employer-kept, posted-kept, slot-kept, some-states-kept, worker-kept, set-kept}
 use Rattle.pool.proofs.Checked.{first-both}
-use Rattle.rules.proofs.Fresh.{none-within}
 use Rattle.rules.proofs.BeginsKept.{after-kept}
 use Rattle.pool.proofs.Standing.{stands, at-guard}
 use Rattle.rules.proofs.EachLine.{by-line}

@@ -25,7 +25,17 @@ call (taking b) p = takeOf p (record { 0 = b })
 call (asking w b) p = askOf p (record { 0 = w }) (record { 0 = b })
 call (advancing w out) p = advanceOf p (record { 0 = w }) out
 
--- the lent list afterwards; a call that is lent none to write leaves none
+-- the list that an advance is lent; the other calls are lent none to write
+unfoldable pub lentTo : Call → List ℕ
+lentTo (hiring w) = []
+lentTo (firing w g) = []
+lentTo (posting w g b) = []
+lentTo (giving-up w ids) = []
+lentTo (taking b) = []
+lentTo (asking w b) = []
+lentTo (advancing w out) = out
+
+-- the lent list afterwards
 unfoldable pub listOf : Call → Pool → List ℕ
 listOf (hiring w) p = []
 listOf (firing w g) p = []

@@ -9,7 +9,7 @@ use Rattle.worker.specs.Registers.{noWorker, to, withV, withH, withAttempts}
 use Rattle.pool.specs.declared.Pool.{Pool}
 use Rattle.pool.specs.Answers.{Said, accepted, label, guard, none-found, posted, back}
 use Rattle.pool.specs.Record.{slotAt, workerAt, blank, withTaken, withPosted, withSlot, withWorker}
-use Rattle.rules.specs.Calls.{Call, hiring, posting, giving-up, taking, advancing, call, listOf, after}
+use Rattle.rules.specs.Calls.{Call, hiring, posting, giving-up, taking, advancing, after, Seen, seen}
 
 -- ---- what is seen of a run
 
@@ -17,15 +17,15 @@ use Rattle.rules.specs.Calls.{Call, hiring, posting, giving-up, taking, 
 abbrev pub lent : List ℕ
 lent = 0 ∷ 0 ∷ 0 ∷ []
 
-unfoldable pub answers : List Call → Pool → List Said
-answers [] p = []
-answers (c ∷ cs) p = call c p .answer ∷ answers cs (call c p .pool)
+unfoldable pub answers : List Seen → List Said
+answers [] = []
+answers (e ∷ es) = e .answer ∷ answers es
 
 -- the lent list as the last call left it
-unfoldable pub listAtEnd : List Call → Pool → List ℕ
-listAtEnd [] p = lent
-listAtEnd (c ∷ []) p = listOf c p
-listAtEnd (c ∷ d ∷ cs) p = listAtEnd (d ∷ cs) (call c p .pool)
+unfoldable pub listAtEnd : List Seen → List ℕ
+listAtEnd [] = lent
+listAtEnd (e ∷ []) = e .list
+listAtEnd (e ∷ d ∷ es) = listAtEnd (d ∷ es)
 
 -- ---- a case: a start, calls, the worker (its number less 1) that is looked at afterwards, and what must be seen
 
@@ -47,18 +47,11 @@ unfoldable pub left : Case → Pool
 left c = after (c .calls) (c .start)
 
 -- the answers in order, the lent list at the end, and of the record that is left MAXG, slot 0 and worker k
-unfoldable pub shownFrom : Pool → List Call → ℕ → Shown
-shownFrom p calls k =
-    record {
-      answers = answers calls p;
-      list = listAtEnd calls p;
-      maxg = after calls p .maxg;
-      slot = slotAt (after calls p) 0;
-      worker = workerAt (after calls p) k;
-    }
+unfoldable pub shownBy : List Seen → Pool → ℕ → Shown
+shownBy es p k = record { answers = answers es; list = listAtEnd es; maxg = p .maxg; slot = slotAt p 0; worker = workerAt p k }
 
 unfoldable pub shown : Case → Shown
-shown c = shownFrom (c .start) (c .calls) (c .looked-at)
+shown c = shownBy (seen (c .calls) (c .start)) (left c) (c .looked-at)
 
 -- every case of a list comes out as expected
 pub data Hold : List Case → Type 0 where
