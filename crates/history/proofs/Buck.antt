@@ -78,6 +78,14 @@ rebuild slot hold w p x own others from to rest mine theirs over = record {
   over = over;
 }
 
+-- A hold that stays as it was, or is on a buffer that is not leaving.
+abbrev pub Stays : (ℕ → ℕ) → ℕ → ℕ → Type 0
+Stays st old new = (new ≡ old) ⊎ (0 < new → st new ≢ 2)
+
+by-stay : (st : ℕ → ℕ) (P : ℕ → Type 0) {old new : ℕ} → Stays st old new → P old → ((0 < new → st new ≢ 2) → P new) → P new
+by-stay st P (inl e) same begun = rw e same
+by-stay st P (inr f) same begun = begun f
+
 module _ (slot : ℕ → Slot) (hold : ℕ → ℕ) (w : ℕ → Mover) (inv : Buck slot hold w) where
   -- A worker that is not in the middle of a guard.
   pub reset : (p : ℕ) (x : Mover) → x .label < 15 → ((g : ℕ) → Ahead g (hold g) x) → Buck slot hold (changed w p x)
@@ -86,12 +94,20 @@ module _ (slot : ℕ → Slot) (hold : ℕ → ℕ) (w : ℕ → Mover) (inv : B
       f (inv .ahead) (inv .over)
 
   -- Holds may end, and a hold may begin on a buffer that is not leaving.
-  pub rehold : (st hold' : ℕ → ℕ) → Spread slot st w → ((g : ℕ) → (hold' g ≡ hold g) ⊎ (0 < hold' g → st (hold' g) ≢ 2)) → Buck slot hold' w
+  pub rehold : (st hold' : ℕ → ℕ) → Spread slot st w → ((g : ℕ) → Stays st (hold g) (hold' g)) → Buck slot hold' w
   rehold st hold' sp law = record {
-    runner = λ p. old p (law (w p .i));
-    race = λ p q n. two p q n (law (w p .i));
-    ahead = λ g p. go g p (law g);
-    over = λ g h. up g h (law g);
+    runner = λ p. by-stay st (λ b. Runner (slot (w p .i)) b (w p)) (law (w p .i)) (inv .runner p) (λ f. let r = inv .runner p in record {
+      old = r .old;
+      first = r .first;
+      differ = r .differ;
+      stuck = λ l e. absurd (at (w p .i) _ f l e);
+      keen = λ l m. absurd (out p _ f l m);
+      last = λ l m. absurd (out p _ f l m);
+      next = λ l m. absurd (out p _ f l m);
+    });
+    race = λ p q n. by-stay st (λ b. Race (slot (w p .i)) b (w p) (w q)) (law (w p .i)) (inv .race p q n) (λ f _ l m. absurd (out p _ f l m));
+    ahead = λ g p. by-stay st (λ b. Ahead g b (w p)) (law g) (inv .ahead g p) (λ f l m. absurd (out p _ f l m));
+    over = λ g h. by-stay st (λ b. g < h → 0 < b → slot h .id ≢ b) (law g) (inv .over g h) (λ f _ l e. at h _ f l e);
   }
     where
       out : (p b : ℕ) → (0 < b → st b ≢ 2) → 0 < b → 0 < w p .member b → ⊥
@@ -100,33 +116,9 @@ module _ (slot : ℕ → Slot) (hold : ℕ → ℕ) (w : ℕ → Mover) (inv : B
       at : (g b : ℕ) → (0 < b → st b ≢ 2) → 0 < b → slot g .id ≡ b → ⊥
       at g b f l e = f l (sym (ap st e) ∙ sp .slot-leaves g (omega arith))
 
-      old : (p : ℕ) → ((hold' (w p .i) ≡ hold (w p .i)) ⊎ (0 < hold' (w p .i) → st (hold' (w p .i)) ≢ 2)) → RunnerAt slot hold' (w p)
-      old p (inl e) = rw e (inv .runner p)
-      old p (inr f) = let r = inv .runner p in record {
-        old = r .old;
-        first = r .first;
-        differ = r .differ;
-        stuck = λ l e. absurd (at (w p .i) _ f l e);
-        keen = λ l m. absurd (out p _ f l m);
-        last = λ l m. absurd (out p _ f l m);
-        next = λ l m. absurd (out p _ f l m);
-      }
-
-      two : (p q : ℕ) → p ≢ q → ((hold' (w p .i) ≡ hold (w p .i)) ⊎ (0 < hold' (w p .i) → st (hold' (w p .i)) ≢ 2)) → Race (slot (w p .i)) (hold' (w p .i)) (w p) (w q)
-      two p q n (inl e) = rw e (inv .race p q n)
-      two p q n (inr f) = λ _ l m. absurd (out p _ f l m)
-
-      go : (g p : ℕ) → ((hold' g ≡ hold g) ⊎ (0 < hold' g → st (hold' g) ≢ 2)) → Ahead g (hold' g) (w p)
-      go g p (inl e) = rw e (inv .ahead g p)
-      go g p (inr f) = λ l m. absurd (out p _ f l m)
-
-      up : (g h : ℕ) → ((hold' g ≡ hold g) ⊎ (0 < hold' g → st (hold' g) ≢ 2)) → g < h → 0 < hold' g → slot h .id ≢ hold' g
-      up g h (inl e) = rw e (inv .over g h)
-      up g h (inr f) = λ _ l e. at h _ f l e
-
--- A worker that leaves a guard, and does not carry what the guard holds.
-passed : (slot : ℕ → Slot) (hold : ℕ → ℕ) (x : Mover) → x .label ≡ 31 → (0 < hold (x .i) → 0 < x .member (hold (x .i)) → ⊥) → RunnerAt slot hold x
-passed slot hold x e lacks = record {
+-- A worker past its attempts at a guard, which does not carry what the guard holds.
+passed : (sl : Slot) (ho : ℕ) (x : Mover) → 28 < x .label → (0 < ho → 0 < x .member ho → ⊥) → Runner sl ho x
+passed sl ho x after lacks = record {
   old = omega arith;
   first = omega arith;
   differ = omega arith;
@@ -139,16 +131,8 @@ passed slot hold x e lacks = record {
 -- The worker that walks: m is MAXG, po the posted id at its guard.
 walk-runner : (slot : ℕ → Slot) (hold : ℕ → ℕ) (m po : ℕ) (x x' : Mover) → Walk m po (slot (x .i)) x x' → RunnerAt slot hold x → HasV x →
     (0 < hold (x .i) → (po ≡ hold (x .i)) × (x .i ≤ m)) → (0 < slot (x .i) .id → x .member (slot (x .i) .id) ≡ 0) → RunnerAt slot hold x'
-walk-runner slot hold m po x x' (w12a e l) r s f z = omega arith
-walk-runner slot hold m po x x' (w12b e l) r s f z = record {
-  old = omega arith;
-  first = omega arith;
-  differ = omega arith;
-  stuck = omega arith;
-  keen = λ a _ _. absurd (omega (arith, f a));
-  last = λ a _ _ _. absurd (omega (arith, f a));
-  next = λ a _ _ _ _. absurd (omega (arith, f a));
-}
+walk-runner slot hold m po x x' (w12a e) r s f z = omega arith
+walk-runner slot hold m po x x' (w12b e l) r s f z = passed _ _ _ (omega arith) (λ a _. omega (arith, f a))
 walk-runner slot hold m po x x' (w13 e) r s f z = omega arith
 walk-runner slot hold m po x x' (w15a e l k) r s f z = record {
   old = λ _ _. r .old (omega arith) (omega arith);
@@ -178,7 +162,7 @@ walk-runner slot hold m po x x' (w18n e n) r s f z = record {
   last = λ a b _. r .last a b (omega arith);
   next = λ a b _. r .next a b (omega arith);
 }
-walk-runner slot hold m po x x' (w22a e t) r s f z = passed slot hold _ refl (λ a b. let k = r .last a b (omega arith) t in r .differ e (k .1) (k .2))
+walk-runner slot hold m po x x' (w22a e t) r s f z = passed _ _ _ (omega arith) (λ a b. let k = r .last a b (omega arith) t in r .differ e (k .1) (k .2))
 walk-runner slot hold m po x x' (w22b e t) r s f z = record {
   old = omega arith;
   first = omega arith;
@@ -188,8 +172,8 @@ walk-runner slot hold m po x x' (w22b e t) r s f z = record {
   last = λ a b _ q. (not-pos _ (λ l. let k = r .next a b (omega arith) (omega arith) l in r .differ e (k .0) (k .1)), refl, refl);
   next = λ _ _ _ _ _. (refl, refl);
 }
-walk-runner slot hold m po x x' (w25a e t l) r s f z = passed slot hold _ refl (λ a b. omega (arith, r .last a b (omega arith) t))
-walk-runner slot hold m po x x' (w25b e n) r s f z = passed slot hold _ refl (λ a b. n (r .keen a b (omega arith) .1 ∙ sym (f a .0)))
+walk-runner slot hold m po x x' (w25a e t l) r s f z = passed _ _ _ (omega arith) (λ a b. omega (arith, r .last a b (omega arith) t))
+walk-runner slot hold m po x x' (w25b e n) r s f z = passed _ _ _ (omega arith) (λ a b. n (r .keen a b (omega arith) .1 ∙ sym (f a .0)))
 walk-runner slot hold m po x x' (w25c e q) r s f z = record {
   old = λ _ _. r .old (omega arith) (omega arith);
   first = omega arith;
@@ -199,13 +183,13 @@ walk-runner slot hold m po x x' (w25c e q) r s f z = record {
   last = λ a b _. r .last a b (omega arith);
   next = λ a b _. r .next a b (omega arith);
 }
-walk-runner slot hold m po x x' (w28n e) r s f z = passed slot hold _ refl (λ a b. omega (arith, r .keen a b (omega arith)))
+walk-runner slot hold m po x x' (w28n e) r s f z = passed _ _ _ (omega arith) (λ a b. omega (arith, r .keen a b (omega arith)))
 walk-runner slot hold m po x x' (w31 e) r s f z = omega arith
 
 -- It has the held buffer, and y is about to store.
 walk-from : (slot : ℕ → Slot) (hold : ℕ → ℕ) (m po : ℕ) (x x' y : Mover) → Walk m po (slot (x .i)) x x' → RunnerAt slot hold x →
     Race (slot (x .i)) (hold (x .i)) x y → Race (slot (x' .i)) (hold (x' .i)) x' y
-walk-from slot hold m po x x' y (w12a e l) r k = omega arith
+walk-from slot hold m po x x' y (w12a e) r k = omega arith
 walk-from slot hold m po x x' y (w12b e l) r k = omega arith
 walk-from slot hold m po x x' y (w13 e) r k = omega arith
 walk-from slot hold m po x x' y (w15a e l t) r k = λ i a b _ _. k i a b (omega arith) (omega arith)
@@ -221,7 +205,7 @@ walk-from slot hold m po x x' y (w31 e) r k = omega arith
 
 -- It comes to label 18 only with what is posted in its set.
 walk-store : {m po : ℕ} {sl : Slot} {x x' : Mover} → Walk m po sl x x' → HasV x → x' .label ≡ 18 → (x' .i ≡ x .i) × (0 < x .member po)
-walk-store (w12a e l) s t = absurd (omega arith)
+walk-store (w12a e) s t = absurd (omega arith)
 walk-store (w12b e l) s t = absurd (omega arith)
 walk-store (w13 e) s t = absurd (omega arith)
 walk-store (w15a e l k) s t = (refl, omega arith)
@@ -237,7 +221,7 @@ walk-store (w31 e) s t = absurd (omega arith)
 
 walk-ahead : (slot : ℕ → Slot) (hold : ℕ → ℕ) (g m po : ℕ) (x x' : Mover) → Walk m po (slot (x .i)) x x' → RunnerAt slot hold x → (0 < hold g → g ≤ m) →
     Ahead g (hold g) x → Ahead g (hold g) x'
-walk-ahead slot hold g m po x x' (w12a e l) r f k = λ a b. omega (arith, k a b)
+walk-ahead slot hold g m po x x' (w12a e) r f k = λ a b. omega (arith, k a b)
 walk-ahead slot hold g m po x x' (w12b e l) r f k = λ a b. omega (arith, k a b, f a)
 walk-ahead slot hold g m po x x' (w13 e) r f k = λ a b. omega (arith, k a b)
 walk-ahead slot hold g m po x x' (w15a e l t) r f k = λ a b. omega (arith, k a b)
@@ -327,15 +311,7 @@ module _ (d : Desk) (slot : ℕ → Slot) (st : ℕ → ℕ) (w : ℕ → Mover)
         let k = kind s in
         let sl : Slot = record { id = c; version = slot here .version + 1 } in
         rebuild _ (d .holds) w p _
-        (record {
-          old = omega arith;
-          first = omega arith;
-          differ = omega arith;
-          stuck = omega arith;
-          keen = λ a b _. absurd (gone k a b);
-          last = λ a b _ _. absurd (gone k a b);
-          next = λ a b _ _ _. absurd (gone k a b);
-        })
+        (passed _ _ _ (omega arith) (gone k))
         (λ q n. changed-case (λ t. Runner t (d .holds (w q .i)) (w q)) slot here sl (w q .i) (other k q n) (λ _. inv .runner q))
         (λ q n. omega arith) (λ q n. omega arith)
         (λ q r _ _ n. changed-case (λ t. Race t (d .holds (w q .i)) (w q) (w r)) slot here sl (w q .i)

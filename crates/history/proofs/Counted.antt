@@ -1,7 +1,7 @@
 -- Any call, and any run: as many given up as handed back and left leaving. Assumes nothing.
 use mathlib.Core.Path.{_≡_, refl, ap, _∙_}
 use mathlib.Core.Bool.{Bool, true, false}
-use mathlib.Core.List.{List, [], _∷_}
+use mathlib.Core.List.{List}
 use Prim.Native.Nat.{ℕ, suc, _+_, _-_, _≤_, _<_}
 use native.Mathlib.Decide.{ℕ-discrete}
 use native.Mathlib.Omega.{arith}
@@ -19,27 +19,27 @@ use Rattle.pool.specs.declared.WorkerNo.{WorkerNo}
 use Rattle.pool.specs.declared.Pool.{Pool}
 use Rattle.pool.specs.Answers.{Told, fine, afterCheck}
 use Rattle.pool.specs.Record.{blank, stateOf, setAt}
-use Rattle.pool.specs.Sound.{inRange, soundOf}
+use Rattle.pool.specs.Sound.{soundOf}
 use Rattle.pool.specs.Checks.{beginCheck, fireCheck, postCheck, listCheck, giveUpCheck, takeCheck, askCheck}
 use Rattle.pool.specs.Begins.{hireOf, fireOf, postOf, leaving, giveUpOf, takeOf, askOf}
 use Rattle.pool.specs.Steps.{puts, ends, line2, line18, line28, freed, lineOf, standCheck, advanceCheck, advanceOf}
 use Rattle.pool.proofs.Parts.{sizes-of}
 use Rattle.pool.proofs.Checked.{first-both, takes, gives-up}
 use Rattle.pool.proofs.Standing.{stands, worker-below}
-use Rattle.rules.specs.Calls.{Call, hiring, firing, posting, giving-up, taking, asking, advancing, call, after, seen}
+use Rattle.rules.specs.Calls.{Call, hiring, firing, posting, giving-up, taking, asking, advancing, call}
 use Rattle.rules.proofs.EachLine.{by-line}
-use Rattle.rules.proofs.Fresh.{made-sound, blank-fresh}
+use Rattle.rules.proofs.Fresh.{blank-fresh}
 use Rattle.rules.proofs.ListChecked.{listed}
 use Rattle.history.specs.States.{isAccepted, handedBack}
-use Rattle.history.specs.Counts.{givenUpBy, givenUp, handedBackBy, inSlots, inSets}
-use Rattle.history.proofs.Kept.{after-both, call-sound}
+use Rattle.history.specs.Counts.{givenUpBy}
+use Rattle.rules.specs.Shaped.{Shaped}
+use Rattle.rules.proofs.Outcomes.{after-both}
 use Rattle.history.proofs.Heard.{at-buffer}
 use Rattle.history.proofs.Placed.{Placed, member-wanted}
-use Rattle.history.proofs.Places.{call-placed, fresh-placed, placed-runs}
 use Rattle.history.proofs.Sums.{count-parts, count-among}
-use Rattle.history.proofs.Leaving.{leavingNumber, member-most, leaving-held}
+use Rattle.history.proofs.Leaving.{leavingNumber, member-most}
 
-module _ (p : Pool) (sound : soundOf p ≡ true) (a : Placed p) where
+module _ (p : Pool) (sound : soundOf p ≡ true) (long : Shaped p) (a : Placed p) where
   abbrev Balanced : Call → Told → Type 0
   Balanced c t = givenUpBy c (t .answer) + leavingNumber p ≡ handedBack (t .answer) + leavingNumber (t .pool)
 
@@ -106,7 +106,7 @@ module _ (p : Pool) (sound : soundOf p ≡ true) (a : Placed p) where
           → eqb (stateOf p id) 2 ≡ eqb (getD (set (p .states) (c - 1) 1) (id - 1) 0) 2
       same free some top id lo (yes q) =
           let m = most in
-          let long = a .states-long in
+          let entries = long .states in
           rw (q, getD-set-same (p .states) (c - 1) 1 0 (omega arith), free)
       same free some top id lo (no n) = rw (getD-set-other (p .states) (c - 1) (id - 1) 1 0 (λ e. n (omega arith)))
 
@@ -170,20 +170,5 @@ module _ (p : Pool) (sound : soundOf p ≡ true) (a : Placed p) where
   call-counted (asking w b) = ask-counted w b
   call-counted (advancing w out) = advance-counted w out
 
--- ---- any run
-
-pub run-counted : (calls : List Call) (p : Pool) → soundOf p ≡ true → Placed p
-    → givenUp (seen calls p) + leavingNumber p ≡ handedBackBy (seen calls p) + leavingNumber (after calls p)
-unfolding after seen givenUp handedBackBy
-run-counted [] p sound a = refl
-run-counted (c ∷ calls) p sound a =
-    omega (arith, call-counted p sound a c, run-counted calls (call c p .pool) (call-sound c p sound) (call-placed p sound a c))
-
-pub counted-runs : (w g b : ℕ) → inRange w g b ≡ true → (calls : List Call) → soundOf (after calls (blank w g b)) ≡ true
-    → givenUp (seen calls (blank w g b))
-    ≡ handedBackBy (seen calls (blank w g b)) + inSlots (after calls (blank w g b)) + inSets (after calls (blank w g b))
-counted-runs w g b h calls sound =
-    let p = blank w g b in
-    let start : leavingNumber p ≡ 0 =
-    count-zero 256 (λ k. eqb (stateOf p (suc k)) 2) (λ k l. ap (λ (n : ℕ). eqb n 2) (blank-fresh w g b .free (suc k))) in
-    omega (arith, run-counted calls p (made-sound w g b h) (fresh-placed w g b), leaving-held (after calls p) sound (placed-runs w g b h calls))
+pub fresh-counted : (w g b : ℕ) → leavingNumber (blank w g b) ≡ 0
+fresh-counted w g b = count-zero 256 (λ k. eqb (stateOf (blank w g b) (suc k)) 2) (λ k l. ap (λ (n : ℕ). eqb n 2) (blank-fresh w g b .free (suc k)))

@@ -1,44 +1,73 @@
--- The example runs, computed. Assumes nothing.
+-- The example runs, computed from the making on, and the theorem used on them. Assumes nothing.
 use mathlib.Core.Path.{_≡_, refl, ap, _∙_}
-use Rattle.basics.specs.Pick.{when, unless}
-use Rattle.basics.specs.Below.{allBelow, anyBelow, countBelow, table}
-use Rattle.idset.specs.Members.{digit, isId, memberOf, pack, wordOf, setOf, noIds, withOf, withoutOf, sizeOf, withinOf, idsOf, above, membersOf}
-use Rattle.worker.specs.Steps.{at22}
+use mathlib.Core.Bool.{true}
+use mathlib.Core.List.{List}
+use native.Mathlib.Omega.{arith}
 use Rattle.pool.specs.declared.Pool.{Pool}
-use Rattle.pool.specs.Answers.{first, afterCheck}
-use Rattle.pool.specs.Record.{blank, withTaken, withEmployer, withPosted, withSlot, withState}
-use Rattle.pool.specs.Sound.{soundOf, beyondSound, kindsSound, idsSound, registersSound}
-use Rattle.pool.specs.Checks.{workerCheck, beginCheck, guardCheck, idCheck, postCheck, entryCheck, listCheck, giveUpCheck, takeCheck}
-use Rattle.pool.specs.Begins.{hireOf, postOf, giveUpOf, takeOf}
-use Rattle.pool.specs.Steps.{puts, ends, line2, line18, line28, lineOf, handCheck, lineCheck, standCheck, advanceCheck, advanceOf, handed, listAfterCheck, listAfter}
-use Rattle.rules.specs.Calls.{call, listOf, after, seen}
-use Rattle.rules.specs.Cases.{left, advances, case5, case6, case7}
-use Rattle.rules.proofs.Cases.{hired, kept, left1, left5}
-use Rattle.history.specs.States.{isAccepted, handedBack, heard}
-use Rattle.history.specs.Holds.{Watch, watchAfter, watched, watchedPosts, beginsPost, completesPost, heldBy, changed, isPosted, freshWatch}
-use Rattle.history.specs.Examples.{watchOf, HeldAndKept}
+use Rattle.pool.specs.Record.{blank}
+use Rattle.pool.specs.Sound.{soundOf}
+use Rattle.rules.specs.Calls.{Call}
+use Rattle.rules.specs.Cases.{advances, case1, case2, case5, case6, case7}
+use Rattle.rules.proofs.Fresh.{made-sound}
+use Rattle.rules.proofs.SoundRuns.{soundAfter, soundSeen, sound-after, sound-seen, running}
+use Rattle.history.specs.Counts.{inSlots, inSets}
+use Rattle.history.specs.History.{History, historyAfter, fresh}
+use Rattle.history.specs.Examples.{leftBy, toldBy, run5, before-empty, run6, run7, before-back, after-back, HeldAndKept, HeldByAnother, KeptBack}
+use Rattle.history.proofs.Computing.{hearing}
+use Rattle.history.proofs.Runs.{every-run}
 
--- from the records that cases 1 and 5 leave
-abbrev five-from : Pool → Watch
-five-from p = watchAfter freshWatch (seen (case5 .calls) p)
+-- what the runs compute by
+playing : Unit {0}
+unfolding hearing running advances case1 case2 case5 case6 case7 run5 before-empty run6 run7 before-back after-back
+playing = tt
 
-run5 : five-from hired .holds 0 ≡ 1
-unfolding when unless allBelow anyBelow countBelow table digit isId memberOf pack wordOf setOf noIds withOf withoutOf sizeOf withinOf idsOf above membersOf at22 first afterCheck soundOf beyondSound kindsSound idsSound registersSound workerCheck beginCheck guardCheck idCheck postCheck entryCheck listCheck giveUpCheck takeCheck hireOf postOf giveUpOf takeOf puts ends line2 line18 line28 lineOf handCheck lineCheck standCheck advanceCheck advanceOf handed listAfterCheck listAfter call listOf after seen advances case5 watchOf watchAfter watched watchedPosts beginsPost completesPost heldBy changed isPosted isAccepted handedBack heard
-run5 = refl
+start-sound : soundOf (blank 2 2 3) ≡ true
+start-sound = made-sound 2 2 3 refl
 
-run6 : watchAfter (five-from hired) (seen (case6 .calls) kept) .holds 0 ≡ 0
-unfolding when unless allBelow anyBelow countBelow table digit isId memberOf pack wordOf setOf noIds withOf withoutOf sizeOf withinOf idsOf above membersOf at22 first afterCheck soundOf beyondSound kindsSound idsSound registersSound workerCheck beginCheck guardCheck idCheck postCheck entryCheck listCheck giveUpCheck takeCheck hireOf postOf giveUpOf takeOf puts ends line2 line18 line28 lineOf handCheck lineCheck standCheck advanceCheck advanceOf handed listAfterCheck listAfter call listOf after seen advances case5 case6 watchOf watchAfter watched watchedPosts beginsPost completesPost heldBy changed isPosted isAccepted handedBack heard
-run6 = refl
+module _ {A : Type 0} (calls : List Call) {a : A} where
+  -- the same of the run from a sound record, which is quicker to compute
+  tells-so : (f : History → A) → f (historyAfter fresh (soundSeen calls (blank 2 2 3))) ≡ a → f (toldBy calls) ≡ a
+  tells-so f e = ap (λ es. f (historyAfter fresh es)) (sound-seen calls (blank 2 2 3) start-sound) ∙ e
 
-run7 : watchAfter (five-from hired) (seen (case7 .calls) kept) .holds 0 ≡ 2
-unfolding when unless allBelow anyBelow countBelow table digit isId memberOf pack wordOf setOf noIds withOf withoutOf sizeOf withinOf idsOf above membersOf at22 first afterCheck soundOf beyondSound kindsSound idsSound registersSound workerCheck beginCheck guardCheck idCheck postCheck entryCheck listCheck giveUpCheck takeCheck hireOf postOf giveUpOf takeOf puts ends line2 line18 line28 lineOf handCheck lineCheck standCheck advanceCheck advanceOf handed listAfterCheck listAfter call listOf after seen advances case5 case7 watchOf watchAfter watched watchedPosts beginsPost completesPost heldBy changed isPosted isAccepted handedBack heard
-run7 = refl
+  leaves-so : (f : Pool → A) → f (soundAfter calls (blank 2 2 3)) ≡ a → f (leftBy calls) ≡ a
+  leaves-so f e = ap f (sound-after calls (blank 2 2 3) start-sound) ∙ e
 
 pub held-and-kept : HeldAndKept
-unfolding watchOf case5 case6 case7
+unfolding playing
 held-and-kept =
     record {
-      five = ap (λ (p : Pool). five-from p .holds 0) left1 ∙ run5;
-      six = ap (λ (p : Pool). watchAfter (five-from p) (seen (case6 .calls) (left case5)) .holds 0) left1 ∙ ap (λ (q : Pool). watchAfter (five-from hired) (seen (case6 .calls) q) .holds 0) left5 ∙ run6;
-      seven = ap (λ (p : Pool). watchAfter (five-from p) (seen (case7 .calls) (left case5)) .holds 0) left1 ∙ ap (λ (q : Pool). watchAfter (five-from hired) (seen (case7 .calls) q) .holds 0) left5 ∙ run7;
+      five-before = tells-so before-empty (λ h. h .posts .holds 0) refl;
+      five = tells-so run5 (λ h. h .posts .holds 0) refl;
+      five-back = tells-so run5 (λ h. h .back) refl;
+      six = tells-so run6 (λ h. h .posts .holds 0) refl;
+      six-back = tells-so run6 (λ h. h .back) refl;
+      seven = tells-so run7 (λ h. h .posts .holds 0) refl;
+      seven-back = tells-so run7 (λ h. h .back) refl;
+    }
+
+pub held-by-another : HeldByAnother
+unfolding playing
+held-by-another =
+    record {
+      held-before = tells-so before-back (λ h. h .posts .holds 1) refl;
+      held-after = tells-so after-back (λ h. h .posts .holds 1) refl;
+      given = tells-so after-back (λ h. h .given) refl;
+      back = tells-so after-back (λ h. h .back) refl;
+      slots = leaves-so after-back (λ p. inSlots p) refl;
+      sets = leaves-so after-back (λ p. inSets p) refl;
+      free = tells-so after-back (λ h. h .states 1) refl;
+      leaving = tells-so after-back (λ h. h .states 2) refl;
+      kept = tells-so after-back (λ h. h .states 3) refl;
+    }
+
+pub kept-back : KeptBack
+kept-back =
+    let f = every-run 2 2 3 refl after-back in
+    record {
+      first = λ out n answer handed. every-run 2 2 3 refl before-empty .safe 2 out n answer 0 1 (omega arith) handed (held-and-kept .five-before);
+      another = λ out n answer handed. every-run 2 2 3 refl before-back .safe 1 out n answer 1 3 (omega arith) handed (held-by-another .held-before);
+      free-place = f .place 1 (omega arith) (omega arith);
+      set-place = f .place 2 (omega arith) (omega arith);
+      slot-place = f .place 3 (omega arith) (omega arith);
+      counts = omega (arith, f .counts, held-by-another .given, held-by-another .back);
     }

@@ -1,12 +1,12 @@
 -- One call: the record afterwards has each buffer in the state that the call and its answer tell. Assumes nothing.
-use mathlib.Core.Path.{_≡_, refl, sym, ap, ap₂, _∙_}
+use mathlib.Core.Path.{_≡_, refl, sym, ap, _∙_}
 use mathlib.Core.Bool.{Bool, true, false}
 use mathlib.Core.List.{List, []}
 use Prim.Native.Nat.{ℕ, suc, _-_, _≤_}
 use native.Mathlib.Decide.{ℕ-discrete}
 use native.Mathlib.Omega.{arith}
 use lib.Dec.{eqb}
-use lib.ListN.{length, getD, set, drop, length-set}
+use lib.ListN.{length, getD, set, drop}
 use lib.Seq.{getD-set-same, getD-set-other}
 use borrow.Author.Tests.{eq-eqb, ne-eqb}
 use Rattle.basics.specs.Pick.{when}
@@ -14,7 +14,7 @@ use Rattle.basics.specs.Below.{anyBelow, table}
 use Rattle.basics.specs.Among.{amongFirst, among}
 use Rattle.basics.proofs.Any.{among-front}
 use Rattle.basics.proofs.Picks.{when-both, unless-both}
-use Rattle.basics.proofs.Table.{table-at, table-length}
+use Rattle.basics.proofs.Table.{table-at}
 use Rattle.idset.specs.Members.{memberOf, sizeOf, membersOf}
 use Rattle.idset.proofs.Listed.{members-size, among-members}
 use Rattle.worker.specs.declared.Worker.{Worker}
@@ -32,26 +32,25 @@ use Rattle.pool.proofs.Standing.{stands, before32, last-label}
 use Rattle.rules.specs.Calls.{Call, hiring, firing, posting, giving-up, taking, asking, advancing, call, listOf}
 use Rattle.rules.proofs.EachLine.{by-line}
 use Rattle.history.specs.States.{States, isAccepted, handedBack, heard}
-use Rattle.history.proofs.Kept.{after-both}
+use Rattle.rules.specs.Shaped.{Shaped}
+use Rattle.rules.proofs.Outcomes.{after-both}
 
--- a record of so many buffers, each in the state that s says
-pub record Agrees (p : Pool) (s : States) : Type 0 where
-  pub long : length (p .states) ≡ 256
-  pub same : (id : ℕ) → 1 ≤ id → id ≤ p .b → stateOf p id ≡ s id
+-- each buffer of p is in the state that s says
+abbrev pub Agrees : Pool → States → Type 0
+Agrees p s = (id : ℕ) → 1 ≤ id → id ≤ p .b → stateOf p id ≡ s id
 
 -- t is an outcome on p: the counts are the same, and the states are those that the call and its answer tell
 pub record Told-by (p : Pool) (s : States) (c : Call) (list : List ℕ) (t : Told) : Type 0 where
   pub w : t .pool .w ≡ p .w
   pub g : t .pool .g ≡ p .g
   pub b : t .pool .b ≡ p .b
-  pub long : length (t .pool .states) ≡ 256
   pub same : (id : ℕ) → 1 ≤ id → id ≤ p .b → stateOf (t .pool) id ≡ heard c (t .answer) list s id
 
 -- a buffer's entry of a table
 pub at-buffer : (f : ℕ → ℕ) (id : ℕ) → 1 ≤ id → id ≤ 256 → getD (table 256 (λ k. f (suc k))) (id - 1) 0 ≡ f id
 at-buffer f id lo hi = table-at 256 (λ k. f (suc k)) (id - 1) 0 (omega arith) ∙ ap f (omega arith)
 
-module _ (p : Pool) (s : States) (sound : soundOf p ≡ true) (a : Agrees p s) where
+module _ (p : Pool) (s : States) (sound : soundOf p ≡ true) (long : Shaped p) (a : Agrees p s) where
   most : p .b ≤ 256
   most = sizes-of p sound .b-most
 
@@ -64,8 +63,23 @@ module _ (p : Pool) (s : States) (sound : soundOf p ≡ true) (a : Agrees p s) w
           w = ew;
           g = eg;
           b = eb;
-          long = ap length es ∙ a .long;
-          same = λ id lo hi. ap (λ (l : List ℕ). getD l (id - 1) 0) es ∙ a .same id lo hi ∙ sym (h id);
+          same = λ id lo hi. ap (λ (l : List ℕ). getD l (id - 1) 0) es ∙ a id lo hi ∙ sym (h id);
+        }
+
+  -- an outcome in which the buffers that a test picks come to state x, of which the history hears as much
+  module _ (c : Call) (list : List ℕ) where
+    tabled : (t : Told) (picked : ℕ → Bool) (x : ℕ) → t .pool .w ≡ p .w → t .pool .g ≡ p .g → t .pool .b ≡ p .b
+        → t .pool .states ≡ table 256 (λ k. when (picked (suc k)) x (stateOf p (suc k)))
+        → ((id : ℕ) → 1 ≤ id → id ≤ 256 → heard c (t .answer) list s id ≡ when (picked id) x (s id)) → Told-by p s c list t
+    tabled t picked x ew eg eb es h =
+        record {
+          w = ew;
+          g = eg;
+          b = eb;
+          same = λ id lo hi.
+              let m = most in
+              ap (λ (l : List ℕ). getD l (id - 1) 0) es ∙ at-buffer (λ n. when (picked n) x (stateOf p n)) id lo (omega arith)
+              ∙ ap (when (picked id) x) (a id lo hi) ∙ sym (h id lo (omega arith));
         }
 
   -- ---- begins
@@ -99,15 +113,7 @@ module _ (p : Pool) (s : States) (sound : soundOf p ≡ true) (a : Agrees p s) w
   give-up-told w ids list =
       after-both (Told-by p s (giving-up w ids) list) (giveUpCheck p _ ids) p _
       (λ e.
-      record {
-        w = refl;
-        g = refl;
-        b = refl;
-        long = table-length 256 _;
-        same = λ id lo hi.
-            let m = most in
-            at-buffer (λ n. when (among ids n) 2 (stateOf p n)) id lo (omega arith) ∙ ap (λ (x : ℕ). when (among ids id) 2 x) (a .same id lo hi);
-      })
+      tabled _ list _ (among ids) 2 refl refl refl refl (λ id lo hi. refl))
       (λ n place e. quiet _ list _ refl refl refl refl (λ id. refl))
 
   take-told : (c : ℕ) (list : List ℕ) → Told-by p s (taking c) list (takeOf p (record { 0 = c }))
@@ -120,7 +126,6 @@ module _ (p : Pool) (s : States) (sound : soundOf p ≡ true) (a : Agrees p s) w
         w = refl;
         g = refl;
         b = refl;
-        long = length-set (p .states) (c - 1) 1 ∙ a .long;
         same = λ id lo hi. one (t .buffer .some) (t .buffer .most) id lo hi (ℕ-discrete id c);
       })
       (λ n place e. quiet _ list _ refl refl refl refl (λ id. refl))
@@ -128,11 +133,11 @@ module _ (p : Pool) (s : States) (sound : soundOf p ≡ true) (a : Agrees p s) w
       one : 1 ≤ c → c ≤ p .b → (id : ℕ) → 1 ≤ id → id ≤ p .b → Dec (id ≡ c) → getD (set (p .states) (c - 1) 1) (id - 1) 0 ≡ when (eqb id c) 1 (s id)
       one some top id lo hi (yes q) =
           let m = most in
-          let long = a .long in
+          let entries = long .states in
           let at : id - 1 ≡ c - 1 = omega arith in
           ap (λ (n : ℕ). getD (set (p .states) (c - 1) 1) n 0) at ∙ getD-set-same (p .states) (c - 1) 1 0 (omega arith) ∙ rw (eq-eqb id c q)
       one some top id lo hi (no n) =
-          getD-set-other (p .states) (c - 1) (id - 1) 1 0 (λ e. n (omega arith)) ∙ a .same id lo hi ∙ rw (ne-eqb id c n)
+          getD-set-other (p .states) (c - 1) (id - 1) 1 0 (λ e. n (omega arith)) ∙ a id lo hi ∙ rw (ne-eqb id c n)
 
   -- ---- the advance
 
@@ -160,16 +165,7 @@ module _ (p : Pool) (s : States) (sound : soundOf p ≡ true) (a : Agrees p s) w
     last-told : (k : ℕ) → list ≡ handed (setAt p k) out → Fine (line32 k p)
     unfolding ends heard handedBack
     last-told k e =
-        record {
-          w = refl;
-          g = refl;
-          b = refl;
-          long = table-length 256 _;
-          same = λ id lo hi.
-              let m = most in
-              at-buffer (λ n. when (memberOf (setAt p k) n) 0 (stateOf p n)) id lo (omega arith)
-              ∙ ap₂ (λ (t : Bool) (x : ℕ). when t 0 x) (sym (handed-ids k id e lo (omega arith))) (a .same id lo hi);
-        }
+        tabled _ list _ (memberOf (setAt p k)) 0 refl refl refl refl (λ id lo hi. ap (λ (t : Bool). when t 0 (s id)) (handed-ids k id e lo hi))
 
     line-told : (l k : ℕ) → (among before32 l ≡ false → list ≡ handed (setAt p k) out) → Fine (lineOf l k p)
     unfolding line2 line18 line28 handedBack

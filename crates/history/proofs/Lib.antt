@@ -1,7 +1,6 @@
 -- The proofs of what specs/ states.
 
 -- soundness and the states of buffers
-pub mod Kept
 pub mod Heard
 -- places, and what they count
 pub mod Placed
@@ -21,4 +20,7 @@ pub mod Watched
 pub mod Safe
 -- all of it
 pub mod Runs
+-- what single runs come to
+pub mod Computing
 pub mod Examples
+pub mod Played

@@ -58,7 +58,7 @@ pub data Serve (d : Desk) (k : ℕ) (x : Mover) (s : ℕ → ℕ) : Desk → Mov
 
 -- of a give-up, that change nothing but the worker: m is MAXG, po the posted id and sl the slot at the worker's guard
 pub data Walk (m po : ℕ) (sl : Slot) (x : Mover) : Mover → Type 0 where
-  w12a : x .label ≡ 12 → x .i ≤ m → Walk m po sl x (at x 13)
+  w12a : x .label ≡ 12 → Walk m po sl x (at x 13)
   w12b : x .label ≡ 12 → m < x .i → Walk m po sl x (at x 32)
   w13 : x .label ≡ 13 → Walk m po sl x (mover 15 (x .i) (x .v) sl 0 (x .max) (x .member))
   w15a : x .label ≡ 15 → 0 < po → x .member po ≡ 1 → Walk m po sl x (mover 18 (x .i) po (x .h) (x .attempts) (x .max) (x .member))

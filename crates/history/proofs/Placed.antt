@@ -6,7 +6,7 @@ use Prim.Native.Nat.{ℕ, zero, suc, _+_, _-_, _≤_, _<_}
 use native.Mathlib.Decide.{ℕ-discrete}
 use native.Mathlib.Omega.{arith}
 use lib.Dec.{eqb}
-use lib.ListN.{length, getD, set, length-set}
+use lib.ListN.{length, getD, set}
 use lib.Seq.{getD-set-same, getD-set-other, set-getD}
 use borrow.Author.Tests.{eq-eqb}
 use Rattle.basics.specs.Below.{one, countBelow}
@@ -17,6 +17,8 @@ use Rattle.idset.specs.Members.{memberOf}
 use Rattle.worker.specs.declared.Worker.{Worker}
 use Rattle.worker.specs.Registers.{noWorker}
 use Rattle.pool.specs.declared.Pool.{Pool}
+use Rattle.pool.specs.Record.{slotAt, setAt}
+use Rattle.rules.specs.Shaped.{Shaped}
 
 -- ---- a count where the test answers otherwise at one number
 
@@ -70,80 +72,68 @@ wanted states id = one (eqb (getD states (id - 1) 0) 2)
 
 -- of a record's arrays
 pub record Arrays (b : ℕ) (slots states : List ℕ) (workers : List Worker) (sets : List IdSet) : Type 0 where
-  pub slots-long : length slots ≡ 32
-  pub states-long : length states ≡ 256
-  pub workers-long : length workers ≡ 8
-  pub sets-long : length sets ≡ 8
   pub holds : (k : ℕ) → k < 8 → Carries (getD workers k noWorker) (getD sets k none)
   pub places : (id : ℕ) → 1 ≤ id → id ≤ b → inSlots slots id + inSets sets id ≡ wanted states id
 
 abbrev pub Placed : Pool → Type 0
 Placed p = Arrays (p .b) (p .«slot_id») (p .states) (p .workers) (p .sets)
 
--- ---- what it tells, and how it is kept
+-- ---- what it tells
 
 module _ {b : ℕ} {slots states : List ℕ} {workers : List Worker} {sets : List IdSet} (a : Arrays b slots states workers sets) where
   -- other states that want the same
-  pub restated : (new : List ℕ) → length new ≡ 256 → ((id : ℕ) → 1 ≤ id → id ≤ b → wanted new id ≡ wanted states id) → Arrays b slots new workers sets
-  restated new long same =
-      record {
-        slots-long = a .slots-long;
-        states-long = long;
-        workers-long = a .workers-long;
-        sets-long = a .sets-long;
-        holds = a .holds;
-        places = λ id lo hi. a .places id lo hi ∙ sym (same id lo hi);
-      }
+  pub restated : (new : List ℕ) → ((id : ℕ) → 1 ≤ id → id ≤ b → wanted new id ≡ wanted states id) → Arrays b slots new workers sets
+  restated new same = record { holds = a .holds; places = λ id lo hi. a .places id lo hi ∙ sym (same id lo hi) }
 
   module _ (k : ℕ) (below : k < 8) where
-    abbrev mine : IdSet
-    mine = getD sets k none
-
-    member-counted : (id : ℕ) → memberOf mine id ≡ true → 1 ≤ inSets sets id
+    member-counted : (id : ℕ) → memberOf (getD sets k none) id ≡ true → 1 ≤ inSets sets id
     member-counted id m = count-some 8 (λ k. memberOf (getD sets k none) id) k below m
 
     -- a member is leaving
-    pub member-wanted : (id : ℕ) → 1 ≤ id → id ≤ b → memberOf mine id ≡ true → wanted states id ≡ 1
+    pub member-wanted : (id : ℕ) → 1 ≤ id → id ≤ b → memberOf (getD sets k none) id ≡ true → wanted states id ≡ 1
     member-wanted id lo hi m = omega (arith, member-counted id m, a .places id lo hi, one-le (eqb (getD states (id - 1) 0) 2))
 
     -- what a slot holds is no member
-    pub slot-alone : (id i : ℕ) → 1 ≤ id → id ≤ b → i < 32 → getD slots i 0 ≡ id → memberOf mine id ≡ false
+    pub slot-alone : (id i : ℕ) → 1 ≤ id → id ≤ b → i < 32 → getD slots i 0 ≡ id → memberOf (getD sets k none) id ≡ false
     slot-alone id i lo hi l e =
-        is-false (memberOf mine id) (λ m.
+        is-false (memberOf (getD sets k none) id) (λ m.
         let s = count-some 32 (λ i. eqb (getD slots i 0) id) i l (eq-eqb (getD slots i 0) id e) in
         omega (arith, member-counted id m, a .places id lo hi, one-le (eqb (getD states (id - 1) 0) 2)))
 
-    -- the worker and its set replaced, and with them slots and states: each id's places and what is wanted change alike
-    pub replaced : (slots′ states′ : List ℕ) (x : Worker) (s : IdSet) → length slots′ ≡ 32 → length states′ ≡ 256 → Carries x s
-        → ((id : ℕ) → 1 ≤ id → id ≤ b → inSlots slots′ id + one (memberOf s id) + wanted states id ≡ inSlots slots id + one (memberOf mine id) + wanted states′ id)
-        → Arrays b slots′ states′ (set workers k x) (set sets k s)
-    replaced slots′ states′ x s slots-long states-long h change =
-        record {
-          slots-long = slots-long;
-          states-long = states-long;
-          workers-long = length-set workers k x ∙ a .workers-long;
-          sets-long = length-set sets k s ∙ a .sets-long;
-          holds = λ j l. each j l (ℕ-discrete j k);
-          places = λ id lo hi.
-              omega (arith, change id lo hi, a .places id lo hi, count-set 8 (λ s. memberOf s id) sets k s none below (a .sets-long));
-        }
-      where
-        each : (j : ℕ) → j < 8 → Dec (j ≡ k) → Carries (getD (set workers k x) j noWorker) (getD (set sets k s) j none)
-        each j l (yes e) =
-            let wl = a .workers-long in
-            let sl = a .sets-long in
-            rw (e, getD-set-same workers k x noWorker (omega arith), getD-set-same sets k s none (omega arith)) h
-        each j l (no n) = rw (getD-set-other workers k j x noWorker n, getD-set-other sets k j s none n) (a .holds j l)
+-- ---- how it is kept, where no array is too short for what is stored
 
-    pub worker-replaced : (x : Worker) → Carries x mine → Arrays b slots states (set workers k x) sets
-    worker-replaced x h =
-        subst (λ (l : List IdSet). Arrays b slots states (set workers k x) l) (set-getD sets k none)
-        (replaced slots states x mine (a .slots-long) (a .states-long) h (λ id lo hi. refl))
+module _ {p : Pool} (long : Shaped p) (a : Placed p) (k : ℕ) (below : k < 8) where
+  abbrev mine : IdSet
+  mine = setAt p k
 
-    -- a slot's id replaced too, and no state
-    pub slot-replaced : (i v : ℕ) (x : Worker) (s : IdSet) → i < 32 → Carries x s
-        → ((id : ℕ) → 1 ≤ id → id ≤ b → one (eqb v id) + one (memberOf s id) ≡ one (eqb (getD slots i 0) id) + one (memberOf mine id))
-        → Arrays b (set slots i v) states (set workers k x) (set sets k s)
-    slot-replaced i v x s l h change =
-        replaced (set slots i v) states x s (length-set slots i v ∙ a .slots-long) (a .states-long) h (λ id lo hi.
-        omega (arith, change id lo hi, count-set 32 (λ n. eqb n id) slots i v 0 l (a .slots-long)))
+  -- the worker and its set replaced, and with them slots and states: each id's places and what is wanted change alike
+  pub replaced : (slots states : List ℕ) (x : Worker) (s : IdSet) → Carries x s
+      → ((id : ℕ) → 1 ≤ id → id ≤ p .b
+      → inSlots slots id + one (memberOf s id) + wanted (p .states) id ≡ inSlots (p .«slot_id») id + one (memberOf mine id) + wanted states id)
+      → Arrays (p .b) slots states (set (p .workers) k x) (set (p .sets) k s)
+  replaced slots states x s h change =
+      record {
+        holds = λ j l. each j l (ℕ-discrete j k);
+        places = λ id lo hi.
+            omega (arith, change id lo hi, a .places id lo hi, count-set 8 (λ s. memberOf s id) (p .sets) k s none below (long .sets));
+      }
+    where
+      each : (j : ℕ) → j < 8 → Dec (j ≡ k) → Carries (getD (set (p .workers) k x) j noWorker) (getD (set (p .sets) k s) j none)
+      each j l (yes e) =
+          let wl = long .workers in
+          let sl = long .sets in
+          rw (e, getD-set-same (p .workers) k x noWorker (omega arith), getD-set-same (p .sets) k s none (omega arith)) h
+      each j l (no n) = rw (getD-set-other (p .workers) k j x noWorker n, getD-set-other (p .sets) k j s none n) (a .holds j l)
+
+  pub worker-replaced : (x : Worker) → Carries x mine → Arrays (p .b) (p .«slot_id») (p .states) (set (p .workers) k x) (p .sets)
+  worker-replaced x h =
+      subst (λ (l : List IdSet). Arrays (p .b) (p .«slot_id») (p .states) (set (p .workers) k x) l) (set-getD (p .sets) k none)
+      (replaced (p .«slot_id») (p .states) x mine h (λ id lo hi. refl))
+
+  -- a slot's id replaced too, and no state
+  pub slot-replaced : (i v : ℕ) (x : Worker) (s : IdSet) → i < 32 → Carries x s
+      → ((id : ℕ) → 1 ≤ id → id ≤ p .b → one (eqb v id) + one (memberOf s id) ≡ one (eqb (slotAt p i .id) id) + one (memberOf mine id))
+      → Arrays (p .b) (set (p .«slot_id») i v) (p .states) (set (p .workers) k x) (set (p .sets) k s)
+  slot-replaced i v x s l h change =
+      replaced (set (p .«slot_id») i v) (p .states) x s h (λ id lo hi.
+      omega (arith, change id lo hi, count-set 32 (λ n. eqb n id) (p .«slot_id») i v 0 l (long .slot-ids)))

@@ -1,12 +1,12 @@
 -- Any call, and any run from a fresh pool, leaves each leaving buffer its one place. Assumes nothing.
 use mathlib.Core.Path.{_≡_, refl, sym, ap, ap₂, _∙_}
 use mathlib.Core.Bool.{Bool, true, false, not, _&&_, _||_, false≢true}
-use mathlib.Core.List.{List, [], _∷_}
+use mathlib.Core.List.{List}
 use Prim.Native.Nat.{ℕ, _+_, _-_, _≤_, _<_}
 use native.Mathlib.Decide.{ℕ-discrete}
 use native.Mathlib.Omega.{arith}
 use lib.Dec.{eqb}
-use lib.ListN.{length, getD, set, length-set, length-replicate}
+use lib.ListN.{length, getD, set}
 use lib.Seq.{getD-set-same, getD-set-other}
 use borrow.Author.Tests.{eqb-true, eq-eqb, ne-eqb}
 use Rattle.basics.specs.Pick.{when}
@@ -15,7 +15,6 @@ use Rattle.basics.specs.Among.{among}
 use Rattle.basics.proofs.Any.{among-each}
 use Rattle.basics.proofs.Count.{count-zero}
 use Rattle.basics.proofs.Picks.{when-both, unless-both}
-use Rattle.basics.proofs.Table.{table-length}
 use Rattle.basics.proofs.Truth.{and-left, and-right}
 use Rattle.idset.specs.declared.IdSet.{IdSet}
 use Rattle.idset.specs.Members.{memberOf, noIds, setOf, withOf, withoutOf}
@@ -27,19 +26,20 @@ use Rattle.pool.specs.declared.WorkerNo.{WorkerNo}
 use Rattle.pool.specs.declared.Pool.{Pool}
 use Rattle.pool.specs.Answers.{Told, afterCheck}
 use Rattle.pool.specs.Record.{blank, stateOf, workerAt, setAt, withStates, withWorker, withSet}
-use Rattle.pool.specs.Sound.{inRange, soundOf}
+use Rattle.pool.specs.Sound.{soundOf}
 use Rattle.pool.specs.Checks.{beginCheck, fireCheck, postCheck, giveUpCheck, takeCheck, askCheck}
 use Rattle.pool.specs.Begins.{hireOf, fireOf, postOf, leaving, giveUpOf, takeOf, askOf}
 use Rattle.pool.specs.Steps.{iOf, postedHere, unchanged, unposted, puts, ends, line2, line18, line28, freed, lineOf, standCheck, advanceCheck, advanceOf}
-use Rattle.pool.specs.Ready.{Stands}
+use Rattle.pool.specs.ForProofs.Ready.{Stands}
 use Rattle.pool.proofs.Parts.{sizes-of}
 use Rattle.pool.proofs.Checked.{first-both, Begun, begun, fires, posts, takes, GivesUp, gives-up}
 use Rattle.pool.proofs.Standing.{stands, worker-below, ready}
-use Rattle.rules.specs.Calls.{Call, hiring, firing, posting, giving-up, taking, asking, advancing, call, after}
+use Rattle.rules.specs.Calls.{Call, hiring, firing, posting, giving-up, taking, asking, advancing, call}
 use Rattle.rules.proofs.EachLine.{by-line}
-use Rattle.rules.proofs.Fresh.{made-sound, blank-fresh}
+use Rattle.rules.proofs.Fresh.{blank-fresh}
 use Rattle.rules.proofs.ListChecked.{listed}
-use Rattle.history.proofs.Kept.{after-both, call-sound}
+use Rattle.rules.specs.Shaped.{Shaped}
+use Rattle.rules.proofs.Outcomes.{after-both}
 use Rattle.history.proofs.Heard.{at-buffer}
 use Rattle.history.proofs.Placed.{gives, tries, Carries, wanted, Placed, restated, member-wanted, slot-alone, replaced, worker-replaced, slot-replaced}
 
@@ -55,7 +55,7 @@ module _ (x : Worker) (s : IdSet) where
   set-with-v : gives (x .label) ≡ true → memberOf s (x .v) ≡ true → Carries x s
   set-with-v g m = record { outside = λ n. absurd (false≢true (sym n ∙ g)); trying = λ y. m }
 
-module _ (p : Pool) (sound : soundOf p ≡ true) (a : Placed p) where
+module _ (p : Pool) (sound : soundOf p ≡ true) (long : Shaped p) (a : Placed p) where
   abbrev Fine : Told → Type 0
   Fine t = Placed (t .pool)
 
@@ -72,7 +72,7 @@ module _ (p : Pool) (sound : soundOf p ≡ true) (a : Placed p) where
     begun-empty = a .holds (w .0 - 1) begun-below .outside (ap gives (b .idle))
 
     begins : (x : Worker) → tries (x .label) ≡ false → Placed (withWorker (w .0 - 1) x p)
-    begins x t = worker-replaced a (w .0 - 1) begun-below x (empty-set x _ t begun-empty)
+    begins x t = worker-replaced long a (w .0 - 1) begun-below x (empty-set x _ t begun-empty)
 
   hire-placed : (w : ℕ) → Fine (hireOf p (record { 0 = w }))
   unfolding hireOf afterCheck
@@ -111,7 +111,7 @@ module _ (p : Pool) (sound : soundOf p ≡ true) (a : Placed p) where
       after-both Fine (giveUpCheck p _ ids) p _
       (λ e.
       let g = gives-up p (record { 0 = w }) ids e in
-      replaced a (w - 1) (begun-below (g .begun)) (p .«slot_id») (leaving ids p) _ _ (a .slots-long) (table-length 256 _) (any-set _ _ refl refl)
+      replaced long a (w - 1) (begun-below (g .begun)) (p .«slot_id») (leaving ids p) _ _ (any-set _ _ refl refl)
       (λ id lo hi. omega (arith, give-up-change (record { 0 = w }) ids g id lo hi)))
       (λ n place e. a)
 
@@ -121,14 +121,14 @@ module _ (p : Pool) (sound : soundOf p ≡ true) (a : Placed p) where
       after-both Fine (takeCheck p _) p _
       (λ e.
       let t = takes p (record { 0 = c }) e in
-      restated a (set (p .states) (c - 1) 1) (length-set (p .states) (c - 1) 1 ∙ a .states-long) (λ id lo hi.
+      restated a (set (p .states) (c - 1) 1) (λ id lo hi.
       same (t .free) (t .buffer .some) (t .buffer .most) id lo hi (ℕ-discrete id c)))
       (λ n place e. a)
     where
       same : stateOf p c ≡ 0 → 1 ≤ c → c ≤ p .b → (id : ℕ) → 1 ≤ id → id ≤ p .b → Dec (id ≡ c) → wanted (set (p .states) (c - 1) 1) id ≡ wanted (p .states) id
       same free some top id lo hi (yes q) =
           let m = most in
-          let long = a .states-long in
+          let entries = long .states in
           rw (q, getD-set-same (p .states) (c - 1) 1 0 (omega arith), free)
       same free some top id lo hi (no n) = rw (getD-set-other (p .states) (c - 1) (id - 1) 1 0 (λ e. n (omega arith)))
 
@@ -154,7 +154,7 @@ module _ (p : Pool) (sound : soundOf p ≡ true) (a : Placed p) where
     trying-at n e t = held .trying (ap tries e ∙ t)
 
     goes-on : (y : Worker) → Carries y s → Placed (withWorker k y p)
-    goes-on y h = worker-replaced a k below y h
+    goes-on y h = worker-replaced long a k below y h
 
     -- outside of a give-up
     quiet : (n : ℕ) → x .label ≡ n → gives n ≡ false → (y : Worker) → tries (y .label) ≡ false → Placed (withWorker k y p)
@@ -164,21 +164,21 @@ module _ (p : Pool) (sound : soundOf p ≡ true) (a : Placed p) where
     abbrev closed : List ℕ → Pool
     closed states = withSet k noIds (withWorker k noWorker (withStates states p))
 
-    ended : (states : List ℕ) → length states ≡ 256
+    ended : (states : List ℕ)
         → ((id : ℕ) → 1 ≤ id → id ≤ p .b → wanted (p .states) id ≡ one (memberOf s id) + wanted states id)
         → Placed (closed states)
-    ended states long change =
-        replaced a k below (p .«slot_id») states noWorker noIds (a .slots-long) long (empty-set noWorker noIds refl member-none) (λ id lo hi.
+    ended states change =
+        replaced long a k below (p .«slot_id») states noWorker noIds (empty-set noWorker noIds refl member-none) (λ id lo hi.
         rw (member-none id) (omega (arith, change id lo hi)))
 
     quiet-end : (n : ℕ) → x .label ≡ n → gives n ≡ false → Placed (closed (p .states))
-    quiet-end n e g = ended (p .states) (a .states-long) (λ id lo hi. rw (outside-at n e g id) (omega arith))
+    quiet-end n e g = ended (p .states) (λ id lo hi. rw (outside-at n e g id) (omega arith))
 
     -- 32: a member was leaving, and is free
     last-placed : Placed (closed (freed s p))
     unfolding when
     last-placed =
-        ended (freed s p) (table-length 256 _) (λ id lo hi.
+        ended (freed s p) (λ id lo hi.
         let m = most in
         rw (at-buffer (λ n. when (memberOf s n) 0 (stateOf p n)) id lo (omega arith)) (change id lo hi (memberOf s id) refl))
       where
@@ -251,13 +251,13 @@ module _ (p : Pool) (sound : soundOf p ≡ true) (a : Placed p) where
               (λ t. set-with-v _ _ refl (and-right (not (eqb (postedHere p k) 0)) _ t)) (λ t. any-set _ _ refl refl));
           at18 = λ e. unless-both Fine _ _ _ (λ t. goes-on _ (set-with-v _ _ refl (trying-at 18 e refl)))
               (λ t.
-              slot-replaced a k below (iOf p k) (x .v) _ _ (slot-here 18 e refl) (any-set _ _ refl refl) (λ id lo hi.
+              slot-replaced long a k below (iOf p k) (x .v) _ _ (slot-here 18 e refl) (any-set _ _ refl refl) (λ id lo hi.
               exchange-change e (same-id t) id lo hi (ℕ-discrete id (x .v)) (ℕ-discrete id h)));
           at22 = λ e. goes-on _ (when-both (λ y. Carries y s) _ _ _ (λ t. any-set _ _ refl refl) (λ t. set-with-v _ _ refl (trying-at 22 e refl)));
           at25 = λ e. goes-on _ (when-both (λ n. Carries (to n x) s) _ 31 18 (λ t. any-set _ _ refl refl) (λ t. set-with-v _ _ refl (trying-at 25 e refl)));
           at28 = λ e. unless-both Fine _ _ _ (λ t. goes-on _ (any-set _ _ refl refl))
               (λ t.
-              slot-replaced a k below (iOf p k) 0 _ _ (slot-here 28 e refl) (any-set _ _ refl refl) (λ id lo hi.
+              slot-replaced long a k below (iOf p k) 0 _ _ (slot-here 28 e refl) (any-set _ _ refl refl) (λ id lo hi.
               collect-change e (same-id (and-right (unposted k p) (unchanged k p) t)) id lo hi (ℕ-discrete id h)));
           at31 = λ e. goes-on _ (any-set _ _ refl refl);
           at32 = λ none. last-placed;
@@ -282,16 +282,12 @@ module _ (p : Pool) (sound : soundOf p ≡ true) (a : Placed p) where
   call-placed (asking w b) = ask-placed w b
   call-placed (advancing w out) = advance-placed w out
 
--- ---- a fresh pool, and every run from one
+-- ---- a fresh pool
 
 pub fresh-placed : (w g b : ℕ) → Placed (blank w g b)
 fresh-placed w g b =
     let f = blank-fresh w g b in
     record {
-      slots-long = length-replicate {A = ℕ} 32 0;
-      states-long = length-replicate {A = ℕ} 256 0;
-      workers-long = length-replicate 8 noWorker;
-      sets-long = length-replicate 8 noIds;
       holds = λ k l. empty-set _ _ (ap (λ (x : Worker). tries (x .label)) (f .idle k)) (λ id. f .empty k id l);
       places = λ id lo hi.
           rw (f .free id)
@@ -299,11 +295,3 @@ fresh-placed w g b =
           (count-zero 32 _ (λ i l. ap (λ x. eqb (x .id) id) (f .unused i) ∙ ne-eqb 0 id (λ z. omega arith)))
           (count-zero 8 _ (λ k l. f .empty k id l)));
     }
-
-pub placed-run : (calls : List Call) (p : Pool) → soundOf p ≡ true → Placed p → Placed (after calls p)
-unfolding after
-placed-run [] p sound a = a
-placed-run (c ∷ calls) p sound a = placed-run calls (call c p .pool) (call-sound c p sound) (call-placed p sound a c)
-
-pub placed-runs : (w g b : ℕ) → inRange w g b ≡ true → (calls : List Call) → Placed (after calls (blank w g b))
-placed-runs w g b h calls = placed-run calls (blank w g b) (made-sound w g b h) (fresh-placed w g b)

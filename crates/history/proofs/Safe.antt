@@ -1,10 +1,10 @@
 -- No advance hands back a buffer that a guard holds, in any run from a fresh pool. Assumes nothing.
 use mathlib.Core.Path.{_≡_, sym, ap, _∙_, subst}
 use mathlib.Core.Bool.{true, false}
-use mathlib.Core.List.{List, [], _∷_}
+use mathlib.Core.List.{List}
 use Prim.Native.Nat.{ℕ, _-_, _≤_}
 use native.Mathlib.Omega.{arith}
-use lib.ListN.{length, length-replicate}
+use lib.ListN.{length}
 use Rattle.basics.specs.Below.{one}
 use Rattle.basics.specs.Among.{among, amongFirst}
 use Rattle.basics.proofs.Picks.{when-both, unless-both}
@@ -19,37 +19,21 @@ use Rattle.pool.specs.Steps.{puts, ends, line2, line18, line28, line32, lineOf,
 use Rattle.pool.proofs.Parts.{sizes-of}
 use Rattle.pool.proofs.Checked.{first-both}
 use Rattle.pool.proofs.Standing.{stands, before32, last-label}
-use Rattle.rules.specs.Calls.{Call, call, listOf, after, seen}
+use Rattle.rules.specs.Calls.{call, listOf}
 use Rattle.rules.proofs.EachLine.{by-line}
 use Rattle.rules.proofs.Fresh.{made-sound, blank-fresh}
-use Rattle.history.specs.Holds.{Watch, freshWatch, watched, watchAfter}
+use Rattle.history.specs.History.{History, fresh}
 use Rattle.history.specs.Safe.{Safe}
-use Rattle.history.proofs.Kept.{after-both, call-sound}
-use Rattle.history.proofs.Heard.{call-told, handed-ids, list-written}
-use Rattle.history.proofs.Places.{call-placed, fresh-placed}
+use Rattle.rules.proofs.Shaped.{blank-shaped}
+use Rattle.rules.proofs.Outcomes.{after-both}
+use Rattle.history.proofs.Heard.{handed-ids, list-written}
+use Rattle.history.proofs.Places.{fresh-placed}
 use Rattle.history.proofs.Guards.{away}
 use Rattle.history.proofs.Watching.{Watching, Known, hold-low}
-use Rattle.history.proofs.Watched.{call-watched}
-
-known-call : (c : Call) (p : Pool) (h : Watch) → Known p h → Known (call c p .pool) (watched c (call c p .answer) (listOf c p) h)
-unfolding watched
-known-call c p h f =
-    let t = call-told p (h .states) (f .sound) (f .agrees) c in
-    record {
-      sound = call-sound c p (f .sound);
-      placed = call-placed p (f .sound) (f .placed) c;
-      agrees = record { long = t .long; same = λ id lo hi. t .same id lo (subst (λ (n : ℕ). id ≤ n) (t .b) hi) };
-      watching = call-watched f c;
-    }
-
-pub known-run : (calls : List Call) (p : Pool) (h : Watch) → Known p h → Known (after calls p) (watchAfter h (seen calls p))
-unfolding after seen watchAfter
-known-run [] p h f = f
-known-run (c ∷ calls) p h f = known-run calls (call c p .pool) (watched c (call c p .answer) (listOf c p) h) (known-call c p h f)
 
 -- ---- one advance
 
-module _ {p : Pool} {h : Watch} (f : Known p h) (w : ℕ) (out : List ℕ) (n g id : ℕ) (lo : 1 ≤ id) (held : h .holds g ≡ id) where
+module _ {p : Pool} {h : History} (f : Known p h) (w : ℕ) (out : List ℕ) (n g id : ℕ) (lo : 1 ≤ id) (held : h .posts .holds g ≡ id) where
   abbrev Fine : Told → Type 0
   Fine t = t .answer ≡ back n → amongFirst (listAfter p (record { 0 = w }) out) n id ≡ true → ⊥
 
@@ -68,10 +52,10 @@ module _ {p : Pool} {h : Watch} (f : Known p h) (w : ℕ) (out : List ℕ) (n g 
   last-safe l q e m =
       let low : id ≤ p .b = subst (λ (b : ℕ). b ≤ p .b) held (hold-low f g) in
       let size : sizeOf (setAt p (w - 1)) ≡ n = cc in
-      let among-n = handed-ids p (h .states) (f .sound) (f .agrees) w out (listAfter p (record { 0 = w }) out) (w - 1) id q lo (omega (arith, sizes-of p (f .sound))) in
+      let among-n = handed-ids p (h .states) (f .sound) (f .shaped) (f .agrees) w out (listAfter p (record { 0 = w }) out) (w - 1) id q lo (omega (arith, sizes-of p (f .sound))) in
       let hit : amongFirst (listAfter p (record { 0 = w }) out) (sizeOf (setAt p (w - 1))) id ≡ true = rw size m in
       let mine : one (memberOf (setAt p (w - 1)) id) ≡ 1 = ap one (sym among-n ∙ hit) in
-      let here : one (memberOf (setAt p (w - 1)) (h .holds g)) ≡ 1 = ap (λ (b : ℕ). one (memberOf (setAt p (w - 1)) b)) held ∙ mine in
+      let here : one (memberOf (setAt p (w - 1)) (h .posts .holds g)) ≡ 1 = ap (λ (b : ℕ). one (memberOf (setAt p (w - 1)) b)) held ∙ mine in
       omega (arith, f .watching .buck .ahead g (w - 1) (omega arith) (omega arith))
 
   line-safe : (among before32 (workerAt p (w - 1) .label) ≡ false → Fine (line32 (w - 1) p)) → Fine (lineOf (workerAt p (w - 1) .label) (w - 1) p)
@@ -108,7 +92,7 @@ module _ {p : Pool} {h : Watch} (f : Known p h) (w : ℕ) (out : List ℕ) (n g 
       let st = stands p no (first-both (standCheck p no) _ e .0) in
       line-safe (λ none.
       let l = last-label st none in
-      last-safe l (list-written p (h .states) (f .sound) (f .agrees) no out e l)))
+      last-safe l (list-written p (h .states) (f .sound) (f .shaped) (f .agrees) no out e l)))
       (λ m place e r _. let z : _≡_ {A = ℕ} 0 1 = cc in omega arith)
 
 -- ---- every run from a fresh pool
@@ -118,7 +102,6 @@ fresh-watching w g b =
     let f = blank-fresh w g b in
     let idle : (k : ℕ) → workerAt (blank w g b) k .label ≡ 0 = λ k. ap (λ (x : Worker). x .label) (f .idle k) in
     record {
-      long = record { taken-long = length-replicate 32 false; employers-long = length-replicate {A = ℕ} 32 0; posted-long = length-replicate {A = ℕ} 32 0; versions-long = length-replicate {A = ℕ} 32 0 };
       recalls = λ k l u. absurd (omega (arith, idle k));
       guards = record {
         clerk = λ k. away (λ l u. omega (arith, idle k));
@@ -141,14 +124,16 @@ fresh-watching w g b =
       };
     }
 
-pub safe : (w g b : ℕ) → inRange w g b ≡ true → (calls : List Call) → Safe w g b calls
+pub safe : (p : Pool) (h : History) → Known p h → Safe p h
 unfolding call listOf
-safe w g b range calls worker out n answer i id lo handed held =
-    let start : Known (blank w g b) freshWatch =
+safe p h f worker out n answer i id lo handed held = advance-safe f worker out n i id lo held answer handed
+
+pub fresh-known : (w g b : ℕ) → inRange w g b ≡ true → Known (blank w g b) fresh
+fresh-known w g b range =
     record {
       sound = made-sound w g b range;
       placed = fresh-placed w g b;
-      agrees = record { long = length-replicate {A = ℕ} 256 0; same = λ id lo hi. blank-fresh w g b .free id };
+      shaped = blank-shaped w g b;
+      agrees = λ id lo hi. blank-fresh w g b .free id;
       watching = fresh-watching w g b;
-    } in
-    advance-safe (known-run calls (blank w g b) freshWatch start) worker out n i id lo held answer handed
+    }

@@ -22,6 +22,7 @@ use Rattle.pool.specs.declared.Pool.{Pool}
 use Rattle.pool.specs.Record.{slotAt, stateOf, workerAt, setAt, postedAt}
 use Rattle.pool.specs.Sound.{soundOf, guardIds, workerIds}
 use Rattle.pool.proofs.Parts.{parts}
+use Rattle.rules.specs.Shaped.{Shaped}
 use Rattle.history.proofs.Changed.{by-eq, not-pos}
 use Rattle.history.proofs.Placed.{gives, tries, Placed, wanted, member-wanted, slot-alone}
 use Rattle.history.proofs.Moves.{Mover, mover}
@@ -66,7 +67,7 @@ early : (l : ℕ) → l < 12 → gives l ≡ false
 early l h =
     rw (ne-eqb l 12 (λ e. omega arith), ne-eqb l 13 (λ e. omega arith), ne-eqb l 15 (λ e. omega arith), ne-eqb l 18 (λ e. omega arith), ne-eqb l 22 (λ e. omega arith), ne-eqb l 25 (λ e. omega arith), ne-eqb l 28 (λ e. omega arith), ne-eqb l 31 (λ e. omega arith), ne-eqb l 32 (λ e. omega arith))
 
-module _ (p : Pool) (sound : soundOf p ≡ true) (a : Placed p) where
+module _ (p : Pool) (sound : soundOf p ≡ true) (long : Shaped p) (a : Placed p) where
   abbrev mine : ℕ → ℕ → ℕ
   mine k b = one (memberOf (setAt p k) b)
 
@@ -74,12 +75,12 @@ module _ (p : Pool) (sound : soundOf p ≡ true) (a : Placed p) where
 
   slot-below : (g : ℕ) → 0 < slotAt p g .id → g < 32
   slot-below g l =
-      by-order 32 g (λ far. let z : slotAt p g .id ≡ 0 = List·getD-eq-default (p .«slot_id») 0 (omega (arith, a .slots-long)) in absurd (omega arith)) (λ near. near)
+      by-order 32 g (λ far. let z : slotAt p g .id ≡ 0 = List·getD-eq-default (p .«slot_id») 0 (omega (arith, long .slot-ids)) in absurd (omega arith)) (λ near. near)
 
   set-below : (k b : ℕ) → memberOf (setAt p k) b ≡ true → k < 8
   set-below k b m =
       by-order 8 k (λ far.
-      let z : setAt p k ≡ record { words = [] } = List·getD-eq-default (p .sets) (record { words = [] }) (omega (arith, a .sets-long)) in
+      let z : setAt p k ≡ record { words = [] } = List·getD-eq-default (p .sets) (record { words = [] }) (omega (arith, long .sets)) in
       absurd (false≢true (sym (no-words b) ∙ sym (ap (λ (s : IdSet). memberOf s b) z) ∙ m)))
       (λ near. near)
 
@@ -136,6 +137,6 @@ module _ (p : Pool) (sound : soundOf p ≡ true) (a : Placed p) where
       has : (k n : ℕ) → workerAt p k .label ≡ n → tries n ≡ true → mine k (workerAt p k .v) ≡ 1
       has k n e t =
           by-order 8 k (λ far.
-          let z : workerAt p k ≡ noWorker = List·getD-eq-default (p .workers) noWorker (omega (arith, a .workers-long)) in
+          let z : workerAt p k ≡ noWorker = List·getD-eq-default (p .workers) noWorker (omega (arith, long .workers)) in
           absurd (false≢true (ap tries (sym (ap (λ (x : Worker). x .label) z) ∙ e) ∙ t)))
           (λ near. ap one (a .holds k near .trying (ap tries e ∙ t)))

@@ -2,10 +2,10 @@
 use mathlib.Core.Path.{_≡_, sym}
 use mathlib.Core.Logic.{_≢_}
 use mathlib.Core.Bool.{true, false, not}
-use Prim.Native.Nat.{ℕ, _+_, _≤_, _<_}
+use Prim.Native.Nat.{ℕ, _+_, _<_}
 use native.Mathlib.Omega.{arith}
 use lib.Dec.{eqb, leb}
-use borrow.Author.Tests.{eqb-true, eqb-false, leb-true, leb-false, not-true}
+use borrow.Author.Tests.{eqb-true, eqb-false, leb-false, not-true}
 use Rattle.basics.proofs.Truth.{and-left, and-right}
 use Rattle.worker.specs.Steps.{lastFailed}
 use Rattle.pool.specs.declared.Pool.{Pool}
@@ -16,10 +16,7 @@ pub some-id : (n : ℕ) → not (eqb n 0) ≡ true → 0 < n
 some-id n t = let z = eqb-false n 0 (not-true (eqb n 0) t) in omega arith
 
 module _ (k : ℕ) (p : Pool) where
-  -- 12: the walk ends past MAXG as it now is, and not before
-  pub within-maxg : leb (iOf p k) (lastGuard k p) ≡ true → iOf p k ≤ p .maxg
-  within-maxg t = leb-true _ _ t
-
+  -- 12: the walk ends past MAXG as it now is
   pub past-maxg : leb (iOf p k) (lastGuard k p) ≡ false → p .maxg < iOf p k
   past-maxg t = leb-false _ _ t
 

@@ -1,7 +1,6 @@
 -- How many buffers were given up and handed back, by what the caller saw alone, a buffer counting each time; and how many a record holds.
 use Prim.Native.Nat.{ℕ, zero, suc, _+_}
 use mathlib.Core.Bool.{not}
-use mathlib.Core.List.{List, [], _∷_}
 use lib.Dec.{eqb}
 use lib.ListN.{length}
 use Rattle.basics.specs.Pick.{when}
@@ -10,8 +9,8 @@ use Rattle.idset.specs.Members.{sizeOf}
 use Rattle.pool.specs.declared.Pool.{Pool}
 use Rattle.pool.specs.Answers.{Said}
 use Rattle.pool.specs.Record.{slotAt, setAt}
-use Rattle.rules.specs.Calls.{Call, hiring, firing, posting, giving-up, taking, asking, advancing, Seen}
-use Rattle.history.specs.States.{isAccepted, handedBack}
+use Rattle.rules.specs.Calls.{Call, hiring, firing, posting, giving-up, taking, asking, advancing}
+use Rattle.history.specs.States.{isAccepted}
 
 -- ---- what was seen
 
@@ -24,14 +23,6 @@ givenUpBy (giving-up w ids) answer = when (isAccepted answer) (length ids) 0
 givenUpBy (taking b) answer = 0
 givenUpBy (asking w b) answer = 0
 givenUpBy (advancing w out) answer = 0
-
-unfoldable pub givenUp : List Seen → ℕ
-givenUp [] = 0
-givenUp (e ∷ es) = givenUpBy (e .made) (e .answer) + givenUp es
-
-unfoldable pub handedBackBy : List Seen → ℕ
-handedBackBy [] = 0
-handedBackBy (e ∷ es) = handedBack (e .answer) + handedBackBy es
 
 -- ---- what a record holds
 

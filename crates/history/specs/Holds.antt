@@ -2,18 +2,16 @@
 -- from the advance that completes a post on it, if it is then in service, until the next post on that guard begins.
 use Prim.Native.Nat.{ℕ}
 use mathlib.Core.Bool.{Bool, true, false}
-use mathlib.Core.List.{List, [], _∷_}
 use lib.Dec.{eqb}
 use Rattle.basics.specs.Pick.{when}
 use Rattle.pool.specs.Answers.{Said, accepted, yes, no, none-found, fired, posted, clear, label, guard, back, count, fault, refused}
-use Rattle.rules.specs.Calls.{Call, hiring, firing, posting, giving-up, taking, asking, advancing, Seen}
-use Rattle.history.specs.States.{States, allFree, isAccepted, heard}
+use Rattle.rules.specs.Calls.{Call, hiring, firing, posting, giving-up, taking, asking, advancing}
+use Rattle.history.specs.States.{States, isAccepted}
 
--- the states; of each worker the guard and the buffer of its latest post; of each guard the buffer that it holds, 0 for none
-pub record Watch : Type 0 where
-  pub states : States
-  pub posting-guard : ℕ → ℕ
-  pub posting-buffer : ℕ → ℕ
+-- of each worker the guard and the buffer of its latest post; of each guard the buffer that it holds, 0 for none
+pub record Posts : Type 0 where
+  pub guard-of : ℕ → ℕ
+  pub buffer-of : ℕ → ℕ
   pub holds : ℕ → ℕ
 
 -- f, but x at k
@@ -36,12 +34,11 @@ isPosted (fault b n) = false
 isPosted (refused n place) = false
 
 -- a post of worker w on guard g and buffer b begins
-unfoldable pub beginsPost : ℕ → ℕ → ℕ → Watch → Watch
+unfoldable pub beginsPost : ℕ → ℕ → ℕ → Posts → Posts
 beginsPost w g b h =
     record {
-      states = h .states;
-      posting-guard = changed (h .posting-guard) w g;
-      posting-buffer = changed (h .posting-buffer) w b;
+      guard-of = changed (h .guard-of) w g;
+      buffer-of = changed (h .buffer-of) w b;
       holds = changed (h .holds) g 0;
     }
 
@@ -50,35 +47,24 @@ unfoldable pub heldBy : States → ℕ → ℕ
 heldBy s b = when (eqb (s b) 1) b 0
 
 -- worker w's post completes
-unfoldable pub completesPost : ℕ → Watch → Watch
-completesPost w h =
+unfoldable pub completesPost : States → ℕ → Posts → Posts
+completesPost s w h =
     record {
-      states = h .states;
-      posting-guard = h .posting-guard;
-      posting-buffer = h .posting-buffer;
-      holds = changed (h .holds) (h .posting-guard w) (heldBy (h .states) (h .posting-buffer w));
+      guard-of = h .guard-of;
+      buffer-of = h .buffer-of;
+      holds = changed (h .holds) (h .guard-of w) (heldBy s (h .buffer-of w));
     }
 
--- the posts and holds after one more call
-unfoldable pub watchedPosts : Call → Said → Watch → Watch
-watchedPosts (hiring w) answer h = h
-watchedPosts (firing w g) answer h = h
-watchedPosts (posting w g b) answer h = when (isAccepted answer) (beginsPost w g b h) h
-watchedPosts (giving-up w ids) answer h = h
-watchedPosts (taking c) answer h = h
-watchedPosts (asking w c) answer h = h
-watchedPosts (advancing w out) answer h = when (isPosted answer) (completesPost w h) h
+-- after one more call, before which the states are s
+unfoldable pub heardPosts : Call → Said → States → Posts → Posts
+heardPosts (hiring w) answer s h = h
+heardPosts (firing w g) answer s h = h
+heardPosts (posting w g b) answer s h = when (isAccepted answer) (beginsPost w g b h) h
+heardPosts (giving-up w ids) answer s h = h
+heardPosts (taking c) answer s h = h
+heardPosts (asking w c) answer s h = h
+heardPosts (advancing w out) answer s h = when (isPosted answer) (completesPost s w h) h
 
-abbrev withHeard : States → Watch → Watch
-withHeard s h = record { states = s; posting-guard = h .posting-guard; posting-buffer = h .posting-buffer; holds = h .holds }
-
-unfoldable pub watched : Call → Said → List ℕ → Watch → Watch
-watched c answer list h = withHeard (heard c answer list (h .states)) (watchedPosts c answer h)
-
--- after all of them
-unfoldable pub watchAfter : Watch → List Seen → Watch
-watchAfter h [] = h
-watchAfter h (e ∷ es) = watchAfter (watched (e .made) (e .answer) (e .list) h) es
-
-abbrev pub freshWatch : Watch
-freshWatch = record { states = allFree; posting-guard = λ w. 0; posting-buffer = λ w. 0; holds = λ g. 0 }
+-- nobody has posted
+abbrev pub noPosts : Posts
+noPosts = record { guard-of = λ w. 0; buffer-of = λ w. 0; holds = λ g. 0 }

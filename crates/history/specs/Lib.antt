@@ -2,6 +2,7 @@
 pub mod States
 pub mod Counts
 pub mod Holds
+pub mod History
 pub mod Safe
 pub mod Runs
 pub mod Examples

@@ -3,25 +3,37 @@ use Prim.Native.Nat.{ℕ, _+_, _≤_}
 use mathlib.Core.Path.{_≡_}
 use mathlib.Core.Bool.{true}
 use mathlib.Core.List.{List}
-use Rattle.pool.specs.Record.{blank, stateOf}
+use lib.Dec.{eqb}
+use Rattle.basics.specs.Below.{one, countBelow}
+use Rattle.idset.specs.Members.{memberOf}
+use Rattle.pool.specs.declared.Pool.{Pool}
+use Rattle.pool.specs.Record.{blank, stateOf, slotAt, setAt}
 use Rattle.pool.specs.Sound.{inRange, soundOf}
-use Rattle.pool.specs.Questions.{placesOf, wantedOf}
 use Rattle.rules.specs.Calls.{Call, after, seen}
 use Rattle.history.specs.Safe.{Safe}
-use Rattle.history.specs.States.{allFree, statesAfter}
-use Rattle.history.specs.Counts.{givenUp, handedBackBy, inSlots, inSets}
+use Rattle.history.specs.History.{History, historyAfter, fresh}
+use Rattle.history.specs.Counts.{inSlots, inSets}
 
--- Demand 3, part by part. A buffer's places are the slots and sets that hold it: one if it is leaving, none if it is free or in service. So each
--- buffer is in exactly one of: free, in service, one slot, one set
-pub record Follows (w g b : ℕ) (calls : List Call) : Type 0 where
-  pub sound : soundOf (after calls (blank w g b)) ≡ true
-  pub workers : after calls (blank w g b) .w ≡ w
-  pub guards : after calls (blank w g b) .g ≡ g
-  pub buffers : after calls (blank w g b) .b ≡ b
-  pub states : (id : ℕ) → 1 ≤ id → id ≤ b → stateOf (after calls (blank w g b)) id ≡ statesAfter allFree (seen calls (blank w g b)) id
-  pub places : (id : ℕ) → 1 ≤ id → id ≤ b → placesOf (after calls (blank w g b)) id ≡ wantedOf (after calls (blank w g b)) id
-  pub counts : givenUp (seen calls (blank w g b)) ≡ handedBackBy (seen calls (blank w g b)) + inSlots (after calls (blank w g b)) + inSets (after calls (blank w g b))
-  pub safe : Safe w g b calls
+-- in how many places buffer id is: free and in service by the history, slots and sets by the record
+abbrev pub timesPlaced : Pool → History → ℕ → ℕ
+timesPlaced p h id =
+    one (eqb (h .states id) 0) + one (eqb (h .states id) 1)
+    + countBelow 32 (λ i. eqb (slotAt p i .id) id) + countBelow 8 (λ k. memberOf (setAt p k) id)
+
+-- demand 3 of a record p of w workers, g guards and b buffers, and its history
+pub record Follows (w g b : ℕ) (p : Pool) (h : History) : Type 0 where
+  pub sound : soundOf p ≡ true
+  pub workers : p .w ≡ w
+  pub guards : p .g ≡ g
+  pub buffers : p .b ≡ b
+  pub states : (id : ℕ) → 1 ≤ id → id ≤ b → stateOf p id ≡ h .states id
+  pub place : (id : ℕ) → 1 ≤ id → id ≤ b → timesPlaced p h id ≡ 1
+  pub counts : h .given ≡ h .back + inSlots p + inSets p
+  pub safe : Safe p h
+
+-- from a start, whatever is called
+abbrev pub FollowsOn : Pool → History → Type 0
+FollowsOn p h = (calls : List Call) → Follows (p .w) (p .g) (p .b) (after calls p) (historyAfter h (seen calls p))
 
 abbrev pub EveryRun : Type 0
-EveryRun = (w g b : ℕ) → inRange w g b ≡ true → (calls : List Call) → Follows w g b calls
+EveryRun = (w g b : ℕ) → inRange w g b ≡ true → FollowsOn (blank w g b) fresh

@@ -1,12 +1,12 @@
 -- Which buffers are free, in service or leaving, by the calls and what the caller saw of them alone: no definition here takes a record.
 use Prim.Native.Nat.{ℕ}
 use mathlib.Core.Bool.{Bool, true, false, _&&_}
-use mathlib.Core.List.{List, [], _∷_}
+use mathlib.Core.List.{List}
 use lib.Dec.{eqb}
 use Rattle.basics.specs.Pick.{when}
 use Rattle.basics.specs.Among.{amongFirst, among}
 use Rattle.pool.specs.Answers.{Said, accepted, yes, no, none-found, fired, posted, clear, label, guard, back, count, fault, refused}
-use Rattle.rules.specs.Calls.{Call, hiring, firing, posting, giving-up, taking, asking, advancing, Seen}
+use Rattle.rules.specs.Calls.{Call, hiring, firing, posting, giving-up, taking, asking, advancing}
 
 -- 0 free, 1 in service, 2 leaving, of each buffer
 abbrev pub States : Type 0
@@ -52,11 +52,6 @@ heard (giving-up w ids) answer list s b = when (isAccepted answer && among ids b
 heard (taking c) answer list s b = when (isAccepted answer && eqb b c) 1 (s b)
 heard (asking w c) answer list s b = s b
 heard (advancing w out) answer list s b = when (amongFirst list (handedBack answer) b) 0 (s b)
-
--- after all of them, from the states at the start
-unfoldable pub statesAfter : States → List Seen → States
-statesAfter s [] = s
-statesAfter s (e ∷ es) = statesAfter (heard (e .made) (e .answer) (e .list) s) es
 
 -- a fresh pool has every buffer free
 abbrev pub allFree : States
