@@ -1,0 +1,89 @@
+-- What Sorkhabin promises, on one page: the three demands, each a statement about the contracts of the engine's public functions (`Contracts`).
+-- The functions of src/lib.rt promise these statements, so a demand that is not shown, or only in part, fails the check of this crate.
+use Prim.Native.Nat.{ℕ, _-_, _≤_}
+use mathlib.Core.Path.{_≡_}
+use mathlib.Core.Bool.{Bool, true, false}
+use mathlib.Core.List.{List}
+use Rattle.basics.specs.Among.{amongFirst}
+use Rattle.pool.specs.declared.Pool.{Pool}
+use Rattle.pool.specs.declared.Refusal.{Refusal}
+use Rattle.pool.specs.declared.Answer.{Answer}
+use Rattle.pool.specs.declared.Outcome.{Outcome}
+use Rattle.pool.specs.Answers.{Said, said, told, accepted, back, refused, numberOf}
+use Rattle.pool.specs.Record.{workerAt, blank}
+use Rattle.pool.specs.Sound.{inRange, soundOf}
+use Rattle.pool.specs.Make.{makeOf, Fresh}
+use Rattle.pool.specs.Questions.{setSizeOf, leavingCountOf, auditOf}
+use Rattle.rules.specs.Calls.{Call, advancing, call, listOf, lentTo, Seen}
+use Rattle.rules.specs.Shaped.{Shaped}
+use Rattle.rules.specs.Frame.{Frame}
+use Rattle.rules.specs.Cases.{Hold, starred}
+use Rattle.rules.specs.Sentences.{Sentences}
+use Rattle.rules.specs.Lent.{Lent}
+use Rattle.history.specs.History.{historyAfter, fresh}
+use Rattle.history.specs.Runs.{Follows}
+use Rattle.history.specs.Examples.{HeldAndKept, HeldByAnother, KeptBack}
+use Rattle.demands.specs.Contracts.{worker, Allows, Makes, Question, set-size, leaving-count, audit, Answers, Tests, Blanks, Numbers, NothingAsked}
+use Rattle.demands.specs.Runs.{Ran, FromMaking, IsRun}
+
+-- ---- 1: any record, any arguments; a refusal changes nothing; the promise determines the result
+
+pub record Demand1 : Type 0 where
+  -- no public function has a `requires`
+  pub nothing-asked : NothingAsked
+  -- a refused call hands back the record, and leaves the lent list, as they were
+  pub unchanged : (c : Call) (p : Pool) (r : Outcome) (list : List ℕ) (n place : ℕ) → Allows p r c list → said (r .answer) ≡ refused n place
+      → (r .pool ≡ p) × (list ≡ lentTo c)
+  -- two results that a contract allows, of the same record and arguments, coincide: answer, record and lent list
+  pub one-outcome : (c : Call) (p : Pool) (r s : Outcome) (l m : List ℕ) → Allows p r c l → Allows p s c m → (r ≡ s) × (l ≡ m)
+  pub one-made : (w g b : ℕ) (r s : Outcome) → Makes w g b r → Makes w g b s → r ≡ s
+  pub one-answer : (x : Question) (p : Pool) (a b : Answer) → Answers p a x → Answers p b x → a ≡ b
+  pub one-test : (p : Pool) (s t : Bool) → Tests p s → Tests p t → s ≡ t
+  pub one-blank : (w g b : ℕ) (p q : Pool) → Blanks w g b p → Blanks w g b q → p ≡ q
+  pub one-number : (r : Refusal) (m n : ℕ) → Numbers r m → Numbers r n → m ≡ n
+
+-- ---- 2: each result is the paper's step
+
+abbrev pub questionOf : Question → Pool → Said
+questionOf (set-size w) p = setSizeOf p (worker w)
+questionOf leaving-count p = leavingCountOf p
+questionOf audit p = auditOf p
+
+pub record Demand2 : Type 0 where
+  -- the answer and the whole record, by the report's numbered steps and the paper's table (`call`), and the lent list
+  pub step : (c : Call) (p : Pool) (r : Outcome) (list : List ℕ) → Allows p r c list → (told r ≡ call c p) × (list ≡ listOf c p)
+  pub making : (w g b : ℕ) (r : Outcome) → Makes w g b r → told r ≡ makeOf w g b
+  pub answer : (x : Question) (p : Pool) (a : Answer) → Answers p a x → said a ≡ questionOf x p
+  pub test : (p : Pool) (t : Bool) → Tests p t → t ≡ soundOf p
+  pub counts-alone : (w g b : ℕ) (p : Pool) → Blanks w g b p → p ≡ blank w g b
+  pub number : (r : Refusal) (n : ℕ) → Numbers r n → n ≡ numberOf r
+  -- a pool that is made is fresh and sound; out of range none is made, and the record handed back is all zero and not sound
+  pub made : (w g b : ℕ) (r : Outcome) → Makes w g b r → inRange w g b ≡ true → (said (r .answer) ≡ accepted) × Fresh w g b (r .pool) × (soundOf (r .pool) ≡ true)
+  pub not-made : (w g b : ℕ) (r : Outcome) → Makes w g b r → inRange w g b ≡ false → (said (r .answer) ≡ refused 1 0) × Fresh 0 0 0 (r .pool) × (soundOf (r .pool) ≡ false)
+  -- a sound record stays sound, and no array gets longer or shorter
+  pub kept-sound : (c : Call) (p : Pool) (r : Outcome) (list : List ℕ) → Allows p r c list → soundOf p ≡ true → soundOf (r .pool) ≡ true
+  pub kept-shape : (c : Call) (p : Pool) (r : Outcome) (list : List ℕ) → Allows p r c list → Shaped p → Shaped (r .pool)
+  -- what an advance of worker w leaves as it was
+  pub frame : (w : ℕ) (out list : List ℕ) (p : Pool) (r : Outcome) → Allows p r (advancing w out) list → Frame p (w - 1) (r .pool)
+  pub list-frame : (w : ℕ) (out list : List ℕ) (p : Pool) (r : Outcome) → Allows p r (advancing w out) list → (workerAt p (w - 1) .label ≡ 32 → ⊥) → list ≡ out
+  -- the paper's starred cases, and its sentences on single calls, hold of these steps
+  pub cases : Hold starred
+  pub sentences : Sentences
+  -- one worker's registers lent alone are advanced as in the whole record
+  pub lent-alone : Lent
+
+-- ---- 3: whatever is called from a made pool on
+
+pub record Demand3 : Type 0 where
+  -- results that the contracts allow, one after the other, are a run by the definitions
+  pub run : (p q : Pool) (es : List Seen) → Ran p es q → IsRun p es q
+  -- each buffer is in exactly one place, its state follows from what the caller saw, what was given up is accounted for, and the counts stay
+  pub follows : (w g b : ℕ) (es : List Seen) (q : Pool) → FromMaking w g b es q → Follows w g b q (historyAfter fresh es)
+  -- an advance that hands back n ids hands back none that a guard i holds at that moment
+  pub safe : (w g b : ℕ) (es : List Seen) (q : Pool) → FromMaking w g b es q
+      → (v : ℕ) (out list : List ℕ) (r : Outcome) (n : ℕ) → Allows q r (advancing v out) list → said (r .answer) ≡ back n
+      → (i id : ℕ) → 1 ≤ id → amongFirst list n id ≡ true → historyAfter fresh es .posts .holds i ≡ id → ⊥
+  -- runs in which guards hold buffers that are given up
+  pub held : HeldAndKept
+  pub held-by-another : HeldByAnother
+  pub kept-back : KeptBack

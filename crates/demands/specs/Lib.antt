@@ -1,0 +1,5 @@
+-- What is promised, on one page (`Demands`), over the engine's contracts.
+pub mod Contracts
+pub mod Runs
+pub mod Demands
+pub mod Instances
