@@ -1,4 +1,4 @@
--- What is shown of every run from a fresh pool, refused calls among its calls.
+-- What is shown of every run, refused calls among its calls, from a record and its history; and of every run from a fresh pool.
 use Prim.Native.Nat.{ℕ, _+_, _≤_}
 use mathlib.Core.Path.{_≡_}
 use mathlib.Core.Bool.{true}
