@@ -12,7 +12,7 @@ use Rattle.rules.specs.Frame.{Frame}
 use Rattle.rules.proofs.Cases.{starred-hold}
 use Rattle.rules.proofs.Fresh.{made-fresh}
 use Rattle.rules.proofs.CallsKept.{call-sound}
-use Rattle.rules.proofs.Shaped.{call-shaped}
+use Rattle.rules.proofs.Shaped.{made-shaped, call-shaped}
 use Rattle.rules.proofs.StepsFrame.{advance-frame}
 use Rattle.rules.proofs.Sentences.{sentences}
 use Rattle.rules.proofs.Lent.{lent}
@@ -40,6 +40,7 @@ demand-2 =
           let pool = ap (λ (t : Told). t .pool) (m .1) in
           (ap (λ (t : Told). t .answer) (m .1) ∙ not-made .answer, subst⁻¹ (Fresh 0 0 0) pool (not-made .all-zero), subst⁻¹ (Judged false) pool (not-made .unsound));
       kept-sound = λ c p r list h sound. subst⁻¹ (Judged true) (left c p r list h) (call-sound c p sound);
+      made-shape = λ w g b r m. subst⁻¹ Shaped (ap (λ (t : Told). t .pool) (m .1)) (made-shaped w g b);
       kept-shape = λ c p r list h shaped. subst⁻¹ Shaped (left c p r list h) (call-shaped c p shaped);
       frame = λ w out list p r h. subst⁻¹ (Frame p (w - 1)) (left (advancing w out) p r list h) (advance-frame .record-framed w out p);
       list-frame = λ w out list p r h other. stepped (advancing w out) p r list h .1 ∙ advance-frame .list-framed w out p other;

@@ -60,8 +60,9 @@ pub record Demand2 : Type 0 where
   -- a pool that is made is fresh and sound; out of range none is made, and the record handed back is all zero and not sound
   pub made : (w g b : ℕ) (r : Outcome) → Makes w g b r → inRange w g b ≡ true → (said (r .answer) ≡ accepted) × Fresh w g b (r .pool) × (soundOf (r .pool) ≡ true)
   pub not-made : (w g b : ℕ) (r : Outcome) → Makes w g b r → inRange w g b ≡ false → (said (r .answer) ≡ refused 1 0) × Fresh 0 0 0 (r .pool) × (soundOf (r .pool) ≡ false)
-  -- a sound record stays sound, and no array gets longer or shorter
+  -- a sound record stays sound; every array has its length from the making on, and no call changes it
   pub kept-sound : (c : Call) (p : Pool) (r : Outcome) (list : List ℕ) → Allows p r c list → soundOf p ≡ true → soundOf (r .pool) ≡ true
+  pub made-shape : (w g b : ℕ) (r : Outcome) → Makes w g b r → Shaped (r .pool)
   pub kept-shape : (c : Call) (p : Pool) (r : Outcome) (list : List ℕ) → Allows p r c list → Shaped p → Shaped (r .pool)
   -- what an advance of worker w leaves as it was
   pub frame : (w : ℕ) (out list : List ℕ) (p : Pool) (r : Outcome) → Allows p r (advancing w out) list → Frame p (w - 1) (r .pool)

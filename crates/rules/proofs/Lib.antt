@@ -14,7 +14,6 @@ pub mod Shaped
 pub mod StepsFrame
 pub mod Refused
 -- runs, and the starred cases
-pub mod Appended
 pub mod Computing
 pub mod SoundRuns
 pub mod Cases
