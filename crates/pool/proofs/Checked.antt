@@ -1,7 +1,7 @@
 -- What is known of the record and the arguments once a check has found nothing: `search` finds each by what the check's code answered.
 -- Assumes nothing.
-use mathlib.Core.Path.{_≡_, refl, sym, _∙_}
-use mathlib.Core.Bool.{Bool, true}
+use mathlib.Core.Path.{_≡_, sym, ap, _∙_}
+use mathlib.Core.Bool.{true}
 use mathlib.Core.List.{List}
 use Prim.Native.Nat.{ℕ, _-_, _≤_, _<_}
 use lib.ListN.{length}
@@ -17,30 +17,27 @@ use Rattle.pool.specs.declared.GuardNo.{GuardNo}
 use Rattle.pool.specs.declared.BufferId.{BufferId}
 use Rattle.pool.specs.declared.Verdict.{Verdict}
 use Rattle.pool.specs.declared.Verdict.the-variants.{Fine}
-use Rattle.pool.specs.Answers.{Check, fine, refuse, verdict, first}
+use Rattle.pool.specs.Answers.{fine, refuse, verdict, isFine}
 use Rattle.pool.specs.Record.{employerAt, postedAt, stateOf}
-use Rattle.pool.specs.Sound.{soundOf}
-use Rattle.pool.specs.Checks.{workerOf, soundCheck, workerCheck, beginCheck, guardCheck, idCheck, fireCheck, postCheck, listCheck, giveUpCheck, takeCheck, askCheck}
+use Rattle.pool.specs.Sound.{soundCheck, soundOf}
+use Rattle.pool.specs.Checks.{workerOf, workerCheck, beginCheck, guardCheck, idCheck, fireCheck, postCheck, listCheck, giveUpCheck, takeCheck, askCheck}
 use Rattle.pool.proofs.Parts.{Sizes, sizes-of}
 use Rattle.pool.proofs.Told.{fine-by}
-
--- two checks of which the first that refuses counts, and none refused
-pub first-both : (a b : Check) → first a b ≡ fine → (a ≡ fine) × (b ≡ fine)
-unfolding first
-first-both fine b h = (refl, h)
-first-both (refuse n place) b h = let z : _≡_ {A = ℕ} 0 1 = cc in absurd (omega arith)
-
-pub never : {n place : ℕ} → refuse n place ≡ fine → ⊥
-never h = let z : _≡_ {A = ℕ} 0 1 = cc in omega arith
+use Rattle.pool.proofs.Firsts.{first-both, never, fine-is}
 
 -- ---- the record is sound
 
 pub sound-of : (p : Pool) → soundCheck p ≡ fine → soundOf p ≡ true
-sound-of p h = unless-back (soundOf p) fine (refuse 2 0) fine never h .0
+unfolding soundOf
+sound-of p h = ap isFine h
+
+pub sound-passes : (p : Pool) → soundOf p ≡ true → soundCheck p ≡ fine
+unfolding soundOf
+sound-passes p h = fine-is (soundCheck p) h
 
 -- and then it has at most 256 buffers
-pub buffers-if : (s : Bool) (p : Pool) → s ≡ soundOf p → s ≡ true → p .b ≤ 256
-buffers-if s p e t = sizes-of p (sym e ∙ t) .b-most
+pub buffers-if : (s : Verdict) (p : Pool) → verdict s ≡ soundCheck p → verdict s ≡ fine → p .b ≤ 256
+buffers-if s p e t = sizes-of p (sound-of p (sym e ∙ t)) .b-most
 
 -- ---- the worker is one of the pool's
 
@@ -53,10 +50,11 @@ pub record Named (p : Pool) (w : WorkerNo) : Type 0 where
 pub named : (p : Pool) (w : WorkerNo) → workerCheck p w ≡ fine → Named p w
 unfolding workerCheck
 named p w h =
-    let a = unless-back (soundOf p) fine (refuse 2 0) _ never h in
+    let a = first-both (soundCheck p) _ h in
     let b = when-back (ltb (w .0) 1) fine (refuse 3 0) _ never (a .1) in
     let c = when-back (ltb (p .w) (w .0)) fine (refuse 3 0) _ never (b .1) in
-    record { sound = a .0; sizes = sizes-of p (a .0); some = ltb-false _ _ (b .0); most = ltb-false _ _ (c .0) }
+    let sound = sound-of p (a .0) in
+    record { sound = sound; sizes = sizes-of p sound; some = ltb-false _ _ (b .0); most = ltb-false _ _ (c .0) }
 
 pub named-by : (v : Verdict) (p : Pool) (w : WorkerNo) → verdict v ≡ workerCheck p w → v ≡ Fine → Named p w
 named-by v p w e q = named p w (fine-by v e q)

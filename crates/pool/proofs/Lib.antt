@@ -2,6 +2,7 @@
 
 -- what a check found, and a sound record part by part
 pub mod Told
+pub mod Firsts
 pub mod Parts
 pub mod Checked
 pub mod Standing

@@ -2,7 +2,7 @@
 use mathlib.Core.Path.{_≡_, refl, sym, ap, ap₂, _∙_}
 use mathlib.Core.Bool.{Bool, true, false, _&&_, _||_, and-false, or-comm}
 use mathlib.Core.List.{List}
-use Prim.Native.Nat.{ℕ, zero, suc, _+_, _-_, _≤_, _<_}
+use Prim.Native.Nat.{ℕ, suc, _+_, _-_, _≤_, _<_}
 use native.Mathlib.Decide.{ℕ-discrete}
 use native.Mathlib.Omega.{arith}
 use native.Mathlib.Numerals.{add-one}
@@ -13,21 +13,16 @@ use borrow.Author.Tests.{eq-eqb, ne-eqb, eqb-true}
 use Rattle.basics.specs.Pick.{when}
 use Rattle.basics.specs.Below.{anyBelow, table}
 use Rattle.basics.specs.Among.{amongFirst, among}
-use Rattle.basics.proofs.Truth.{and-left, and-right, is-false, eqb-same, by-order}
+use Rattle.basics.proofs.Truth.{and-left, and-right, is-false, eqb-same}
 use Rattle.basics.proofs.Table.{table-at, table-is, table-length, table-cong}
 use Rattle.idset.specs.declared.IdSet.{IdSet}
 use Rattle.idset.specs.Members.{isId, memberOf, setOf, noIds, withOf}
 use Rattle.idset.proofs.Members.{id-true, member-setOf, setOf-cong}
 use Rattle.pool.specs.declared.Pool.{Pool}
-use Rattle.pool.specs.declared.Refusal.{Refusal}
-use Rattle.pool.specs.declared.Verdict.{Verdict}
-use Rattle.pool.specs.declared.Verdict.the-variants.{Fine, Fault}
 use Rattle.worker.specs.Registers.{to, withI}
-use Rattle.pool.specs.Answers.{fine, refuse, numberOf, verdict, first, answering, accepted}
+use Rattle.pool.specs.Answers.{answering, accepted}
 use Rattle.pool.specs.Record.{stateOf, workerAt, withStates, withWorker, withSet}
 use Rattle.pool.specs.Begins.{givingUp}
-use Rattle.pool.specs.Checks.{entryCheck, listCheck}
-use Rattle.pool.proofs.Told.{fine-by, refuse-by}
 
 -- ---- one buffer leaves
 
@@ -92,33 +87,6 @@ collected-again ids j {s} {next} e h =
     h ∙ setOf-cong {p = λ b. eqb b id || memberOf s b} {q = amongFirst ids (j + 1)} (λ b eb.
     ap₂ _||_ (eqb-same b id id b sym sym) (ap (λ (t : IdSet). memberOf t b) e ∙ member-setOf (amongFirst ids j) b ∙ ap (λ (t : Bool). t && amongFirst ids j b) eb)
     ∙ or-comm (eqb id b) (amongFirst ids j b) ∙ ap (λ (n : ℕ). amongFirst ids n b) (sym (add-one j)))
-
--- ---- the check of the first n entries
-
-module _ (p : Pool) (ids : List ℕ) where
-  pub list-none : listCheck p ids 0 ≡ fine
-  unfolding listCheck
-  list-none = refl
-
-  pub list-again : (v : Verdict) (k : ℕ) → listCheck p ids k ≡ fine → verdict v ≡ entryCheck p ids k → v ≡ Fine → listCheck p ids (k + 1) ≡ fine
-  unfolding listCheck first
-  list-again v k h e q = rw (add-one, h) (fine-by v e q)
-
-  stops : (n k number place : ℕ) → listCheck p ids k ≡ fine → entryCheck p ids k ≡ refuse number place → k < n → listCheck p ids n ≡ refuse number place
-  unfolding listCheck first
-  stops zero k number place h e l = absurd (omega arith)
-  stops (suc n) k number place h e l =
-      by-order n k
-      (λ m. let q : k ≡ n = omega arith in rw (← q, h) e)
-      (λ m. rw (stops n k number place h e m))
-
-  -- the first entry at fault decides
-  pub list-fault : (v : Verdict) (r : Refusal) (place k n : ℕ) → listCheck p ids k ≡ fine → verdict v ≡ entryCheck p ids k → v ≡ Fault r place → k < n
-      → refuse (numberOf r) place ≡ listCheck p ids n
-  list-fault v r place k n h e q l = sym (stops n k (numberOf r) place h (refuse-by v e r place q) l)
-
-  pub list-done : (k n : ℕ) → listCheck p ids k ≡ fine → k ≡ n → fine ≡ listCheck p ids n
-  list-done k n h e = cc
 
 -- ---- the record of an accepted give-up, by what the loops made
 

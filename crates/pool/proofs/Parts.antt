@@ -1,6 +1,6 @@
 -- A sound record, rule by rule and array by array. Assumes nothing.
-use mathlib.Core.Path.{_≡_}
-use mathlib.Core.Bool.{Bool, true, not, _&&_, _||_}
+use mathlib.Core.Path.{_≡_, sym, ap₂, _∙_}
+use mathlib.Core.Bool.{Bool, true, not, _&&_, _||_, and-assoc}
 use mathlib.Core.List.{[], _∷_}
 use Prim.Native.Nat.{ℕ, suc, _≤_, _<_}
 use native.Mathlib.Omega.{arith}
@@ -12,48 +12,84 @@ use Rattle.basics.proofs.All.{all-at}
 use Rattle.idset.specs.Members.{withinOf}
 use Rattle.worker.specs.declared.Worker.{Worker}
 use Rattle.pool.specs.declared.Pool.{Pool}
-use Rattle.pool.specs.Record.{employerAt, stateOf, workerAt, setAt}
-use Rattle.pool.specs.Sound.{countsSound, guardsBeyond, buffersBeyond, workersBeyond, beyondSound, isLabel, kindsSound, guardIds, workerIds, idsSound, registersIn, registersSound, soundOf}
+use Rattle.pool.specs.Answers.{first, isFine}
+use Rattle.pool.specs.Record.{workerAt, setAt}
+use Rattle.pool.specs.Sound.{guardsKeep, buffersKeep, workersKeep, countsSound, countsCheck, guardsBeyond, buffersBeyond, workersBeyond, beyondCheck, employerIn, stateIn, isLabel, labelIn, kindsCheck, guardIds, workerIds, idsCheck, workerRegisters, registersCheck, soundCheck, soundOf}
+use Rattle.pool.proofs.Firsts.{fine-first, fine-keeps, fine-each}
+
+-- ---- a sound record passes every test
 
 pub record Parts (p : Pool) : Type 0 where
   pub counts : countsSound p ≡ true
   pub guards-beyond : allBelow 32 (guardsBeyond p) ≡ true
   pub buffers-beyond : allBelow 256 (buffersBeyond p) ≡ true
   pub workers-beyond : allBelow 8 (workersBeyond p) ≡ true
-  pub employers : allBelow 32 (λ i. leb (employerAt p i) (p .w)) ≡ true
-  pub states : allBelow 256 (λ k. leb (stateOf p (suc k)) 2) ≡ true
-  pub labels : allBelow 8 (λ k. isLabel (workerAt p k .label)) ≡ true
+  pub employers : allBelow 32 (employerIn p) ≡ true
+  pub states : allBelow 256 (stateIn p) ≡ true
+  pub labels : allBelow 8 (labelIn p) ≡ true
   pub guard-ids : allBelow 32 (guardIds p) ≡ true
-  pub worker-ids : allBelow 8 (λ k. workerIds (p .b) (workerAt p k) (setAt p k)) ≡ true
-  pub registers : allBelow 8 (λ k. registersIn (p .g) (workerAt p k)) ≡ true
+  pub worker-ids : allBelow 8 (workerIds p) ≡ true
+  pub registers : allBelow 8 (workerRegisters p) ≡ true
+
+-- a rule that asks guards, buffers and workers
+of-three : (rule : ℕ) (f g h : ℕ → Bool)
+    → isFine (first (guardsKeep rule f) (first (buffersKeep rule g) (workersKeep rule h))) ≡ (allBelow 32 f && (allBelow 256 g && allBelow 8 h))
+of-three rule f g h =
+    fine-first (guardsKeep rule f) (first (buffersKeep rule g) (workersKeep rule h))
+    ∙ ap₂ _&&_ (fine-each 32 rule (λ i. i) f)
+    (fine-first (buffersKeep rule g) (workersKeep rule h) ∙ ap₂ _&&_ (fine-each 256 rule suc g) (fine-each 8 rule suc h))
+
+in-a-row : (c a b d e f g h i r : Bool)
+    → (c && ((a && (b && d)) && ((e && (f && g)) && ((h && i) && r)))) ≡ (c && a && b && d && e && f && g && h && i && r)
+in-a-row c a b d e f g h i r = simp and-assoc
+
+module _ (p : Pool) where
+  -- the tests in the order of the rules
+  pub sound-tests : soundOf p
+      ≡ (countsSound p && allBelow 32 (guardsBeyond p) && allBelow 256 (buffersBeyond p) && allBelow 8 (workersBeyond p)
+      && allBelow 32 (employerIn p) && allBelow 256 (stateIn p) && allBelow 8 (labelIn p)
+      && allBelow 32 (guardIds p) && allBelow 8 (workerIds p) && allBelow 8 (workerRegisters p))
+  unfolding soundOf soundCheck countsCheck beyondCheck kindsCheck idsCheck registersCheck
+  sound-tests =
+      fine-first (countsCheck p) (first (beyondCheck p) (first (kindsCheck p) (first (idsCheck p) (registersCheck p))))
+      ∙ ap₂ _&&_ (fine-keeps 21 0 (countsSound p))
+      (fine-first (beyondCheck p) (first (kindsCheck p) (first (idsCheck p) (registersCheck p)))
+      ∙ ap₂ _&&_ (of-three 22 (guardsBeyond p) (buffersBeyond p) (workersBeyond p))
+      (fine-first (kindsCheck p) (first (idsCheck p) (registersCheck p))
+      ∙ ap₂ _&&_ (of-three 23 (employerIn p) (stateIn p) (labelIn p))
+      (fine-first (idsCheck p) (registersCheck p)
+      ∙ ap₂ _&&_
+      (fine-first (guardsKeep 24 (guardIds p)) (workersKeep 24 (workerIds p))
+      ∙ ap₂ _&&_ (fine-each 32 24 (λ i. i) (guardIds p)) (fine-each 8 24 suc (workerIds p)))
+      (fine-each 8 25 suc (workerRegisters p)))))
+      ∙ in-a-row (countsSound p) (allBelow 32 (guardsBeyond p)) (allBelow 256 (buffersBeyond p)) (allBelow 8 (workersBeyond p))
+      (allBelow 32 (employerIn p)) (allBelow 256 (stateIn p)) (allBelow 8 (labelIn p))
+      (allBelow 32 (guardIds p)) (allBelow 8 (workerIds p)) (allBelow 8 (workerRegisters p))
 
 module _ {p : Pool} where
   pub parts : soundOf p ≡ true → Parts p
-  unfolding soundOf beyondSound kindsSound idsSound registersSound
   parts h =
-      let rules = each (countsSound p) (beyondSound p ∷ kindsSound p ∷ idsSound p ∷ registersSound p ∷ []) h in
-      let beyond = each (allBelow 32 (guardsBeyond p)) (allBelow 256 (buffersBeyond p) ∷ allBelow 8 (workersBeyond p) ∷ []) (rules .1 .0) in
-      let kinds =
-      each (allBelow 32 (λ i. leb (employerAt p i) (p .w)))
-      (allBelow 256 (λ k. leb (stateOf p (suc k)) 2) ∷ allBelow 8 (λ k. isLabel (workerAt p k .label)) ∷ []) (rules .1 .1 .0) in
-      let ids = each (allBelow 32 (guardIds p)) (allBelow 8 (λ k. workerIds (p .b) (workerAt p k) (setAt p k)) ∷ []) (rules .1 .1 .1 .0) in
+      let e =
+      each (countsSound p) (allBelow 32 (guardsBeyond p) ∷ allBelow 256 (buffersBeyond p) ∷ allBelow 8 (workersBeyond p)
+      ∷ allBelow 32 (employerIn p) ∷ allBelow 256 (stateIn p) ∷ allBelow 8 (labelIn p)
+      ∷ allBelow 32 (guardIds p) ∷ allBelow 8 (workerIds p) ∷ allBelow 8 (workerRegisters p) ∷ []) (sym (sound-tests p) ∙ h) in
       record {
-        counts = rules .0;
-        guards-beyond = beyond .0;
-        buffers-beyond = beyond .1 .0;
-        workers-beyond = beyond .1 .1;
-        employers = kinds .0;
-        states = kinds .1 .0;
-        labels = kinds .1 .1;
-        guard-ids = ids .0;
-        worker-ids = ids .1;
-        registers = rules .1 .1 .1 .1;
+        counts = e .0;
+        guards-beyond = e .1 .0;
+        buffers-beyond = e .1 .1 .0;
+        workers-beyond = e .1 .1 .1 .0;
+        employers = e .1 .1 .1 .1 .0;
+        states = e .1 .1 .1 .1 .1 .0;
+        labels = e .1 .1 .1 .1 .1 .1 .0;
+        guard-ids = e .1 .1 .1 .1 .1 .1 .1 .0;
+        worker-ids = e .1 .1 .1 .1 .1 .1 .1 .1 .0;
+        registers = e .1 .1 .1 .1 .1 .1 .1 .1 .1;
       }
 
   pub whole : Parts p → soundOf p ≡ true
-  unfolding soundOf beyondSound kindsSound idsSound registersSound
   whole s =
-      rw (s .counts, s .guards-beyond, s .buffers-beyond, s .workers-beyond, s .employers, s .states, s .labels, s .guard-ids, s .worker-ids, s .registers)
+      sound-tests p
+      ∙ rw (s .counts, s .guards-beyond, s .buffers-beyond, s .workers-beyond, s .employers, s .states, s .labels, s .guard-ids, s .worker-ids, s .registers)
 
 -- ---- the counts, as plain ranges
 
@@ -101,12 +137,12 @@ worker-in {p} s k l =
     let x = workerAt p k in
     let ids =
     each (leb (x .v) (p .b)) (leb (x .h .id) (p .b) ∷ withinOf (setAt p k) (p .b) ∷ [])
-    (all-at 8 (λ k. workerIds (p .b) (workerAt p k) (setAt p k)) (s .worker-ids) k l8) in
+    (all-at 8 (workerIds p) (s .worker-ids) k l8) in
     let registers =
     each (placeIn (p .g) x) (ltb (x .max) (p .g) ∷ leb (x .attempts) 3 ∷ triesIn x ∷ [])
-    (all-at 8 (λ k. registersIn (p .g) (workerAt p k)) (s .registers) k l8) in
+    (all-at 8 (workerRegisters p) (s .registers) k l8) in
     record {
-      label = all-at 8 (λ k. isLabel (workerAt p k .label)) (s .labels) k l8;
+      label = all-at 8 (labelIn p) (s .labels) k l8;
       v = ids .0;
       h = ids .1 .0;
       members = ids .1 .1;

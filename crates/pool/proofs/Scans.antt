@@ -11,9 +11,10 @@ use Rattle.basics.specs.Below.{allBelow}
 use Rattle.basics.proofs.Truth.{reorder}
 use Rattle.basics.proofs.All.{all-of, all-and, all-or-and, all-cong}
 use Rattle.pool.specs.declared.Pool.{Pool}
-use Rattle.pool.specs.Record.{takenAt, employerAt, postedAt, slotAt, stateOf, workerAt, setAt}
-use Rattle.pool.specs.Sound.{countsSound, zeroWorker, guardsBeyond, buffersBeyond, workersBeyond, beyondSound, isLabel, kindsSound, workerIds, idsSound, registersIn, registersSound, soundOf}
+use Rattle.pool.specs.Record.{takenAt, employerAt, postedAt, slotAt, stateOf, workerAt}
+use Rattle.pool.specs.Sound.{countsSound, zeroWorker, guardsBeyond, buffersBeyond, workersBeyond, stateIn, labelIn, workerIds, workerRegisters, soundOf}
 use Rattle.pool.specs.ForProofs.Scans.{most, zeroFrom, untakenFrom, registersFitAt, setWithin, emptyFrom}
+use Rattle.pool.proofs.Parts.{sound-tests}
 
 -- ---- a scan from the count on
 
@@ -60,39 +61,33 @@ module _ (p : Pool) where
   buffers-beyond : allBelow 256 (zeroFrom (p .states) (p .b)) ≡ allBelow 256 (buffersBeyond p)
   buffers-beyond = all-cong 256 (zeroFrom (p .states) (p .b)) (buffersBeyond p) (λ k l. ap (λ (x : ℕ). ltb k (p .b) || eqb x 0) (entry k))
 
-  states-most : allBelow 256 (most (p .states) 2) ≡ allBelow 256 (λ k. leb (stateOf p (suc k)) 2)
-  states-most = all-cong 256 (most (p .states) 2) (λ k. leb (stateOf p (suc k)) 2) (λ k l. ap (λ (x : ℕ). leb x 2) (entry k))
+  states-most : allBelow 256 (most (p .states) 2) ≡ allBelow 256 (stateIn p)
+  states-most = all-cong 256 (most (p .states) 2) (stateIn p) (λ k l. ap (λ (x : ℕ). leb x 2) (entry k))
 
-  pub states-fit : allBelow 256 (fits (p .states) (p .b)) ≡ (allBelow 256 (λ k. leb (stateOf p (suc k)) 2) && allBelow 256 (buffersBeyond p))
+  pub states-fit : allBelow 256 (fits (p .states) (p .b)) ≡ (allBelow 256 (stateIn p) && allBelow 256 (buffersBeyond p))
   states-fit = all-and 256 (most (p .states) 2) (zeroFrom (p .states) (p .b)) ∙ ap₂ _&&_ states-most buffers-beyond
 
   abbrev idle : ℕ → Bool
   idle k = ltb k (p .w) || zeroWorker (workerAt p k)
 
-  abbrev label : ℕ → Bool
-  label k = isLabel (workerAt p k .label)
-
   abbrev ids : ℕ → Bool
   ids k = leb (workerAt p k .v) (p .b) && leb (workerAt p k .h .id) (p .b)
 
-  abbrev registers : ℕ → Bool
-  registers k = registersIn (p .g) (workerAt p k)
-
-  workers-four : allBelow 8 (registersFitAt (p .w) (p .g) (p .b) (p .workers)) ≡ (allBelow 8 idle && allBelow 8 label && allBelow 8 ids && allBelow 8 registers)
+  workers-four : allBelow 8 (registersFitAt (p .w) (p .g) (p .b) (p .workers)) ≡ (allBelow 8 idle && allBelow 8 (labelIn p) && allBelow 8 ids && allBelow 8 (workerRegisters p))
   workers-four =
-      all-and 8 (λ k. idle k && label k && ids k) registers
-      ∙ ap (λ (t : Bool). t && allBelow 8 registers)
-      (all-and 8 (λ k. idle k && label k) ids ∙ ap (λ (t : Bool). t && allBelow 8 ids) (all-and 8 idle label))
+      all-and 8 (λ k. idle k && labelIn p k && ids k) (workerRegisters p)
+      ∙ ap (λ (t : Bool). t && allBelow 8 (workerRegisters p))
+      (all-and 8 (λ k. idle k && labelIn p k) ids ∙ ap (λ (t : Bool). t && allBelow 8 ids) (all-and 8 idle (labelIn p)))
 
   workers-beyond : allBelow 8 (workersBeyond p) ≡ (allBelow 8 idle && allBelow 8 (emptyFrom (p .sets) (p .w)))
   workers-beyond = all-or-and 8 (λ k. ltb k (p .w)) (λ k. zeroWorker (workerAt p k)) (setWithin (p .sets) 0)
 
-  worker-ids : allBelow 8 (λ k. workerIds (p .b) (workerAt p k) (setAt p k)) ≡ (allBelow 8 ids && allBelow 8 (setWithin (p .sets) (p .b)))
+  worker-ids : allBelow 8 (workerIds p) ≡ (allBelow 8 ids && allBelow 8 (setWithin (p .sets) (p .b)))
   worker-ids = all-and 8 ids (setWithin (p .sets) (p .b))
 
 reordered : (c t e₀ e p₀ p s₀ s v₀ b₀ b w₀ l i r m m₀ : Bool)
     → (c && t && (e && e₀) && (p && p₀) && (s && s₀) && v₀ && (b && b₀) && (w₀ && l && i && r) && (m && m₀))
-    ≡ (c && ((t && e₀ && p₀ && s₀ && v₀) && b₀ && (w₀ && m₀)) && (e && b && l) && ((p && s) && (i && m)) && r)
+    ≡ (c && (t && e₀ && p₀ && s₀ && v₀) && b₀ && (w₀ && m₀) && e && b && l && (p && s) && (i && m) && r)
 reordered c t e₀ e p₀ p s₀ s v₀ b₀ b w₀ l i r m m₀ = simp reorder
 
 scanned : (p : Pool)
@@ -104,9 +99,9 @@ scanned : (p : Pool)
     && (allBelow 256 (most (p .states) 2) && allBelow 256 (zeroFrom (p .states) (p .b)))
     && allBelow 8 (registersFitAt (p .w) (p .g) (p .b) (p .workers))
     && (allBelow 8 (setWithin (p .sets) (p .b)) && allBelow 8 (emptyFrom (p .sets) (p .w)))) ≡ soundOf p
-unfolding soundOf beyondSound kindsSound idsSound registersSound
 scanned p =
     rw (
+      sound-tests p,
       states-most p,
       buffers-beyond p,
       workers-four p,
@@ -125,16 +120,17 @@ scanned p =
     (allBelow 32 (most (p .«slot_id») (p .b)))
     (allBelow 32 (zeroFrom (p .«slot_version») (p .g)))
     (allBelow 256 (buffersBeyond p))
-    (allBelow 256 (λ k. leb (stateOf p (suc k)) 2))
+    (allBelow 256 (stateIn p))
     (allBelow 8 (idle p))
-    (allBelow 8 (label p))
+    (allBelow 8 (labelIn p))
     (allBelow 8 (ids p))
-    (allBelow 8 (registers p))
+    (allBelow 8 (workerRegisters p))
     (allBelow 8 (setWithin (p .sets) (p .b)))
     (allBelow 8 (emptyFrom (p .sets) (p .w))))
 
 -- the same from what the scans answered
-module _ (p : Pool) {taken employers employer posts posted ids id versions known free workers members : Bool}
+module _ (p : Pool) {counts taken employers employer posts posted ids id versions known free workers members : Bool}
+    (hc : counts ≡ countsSound p)
     (ht : taken ≡ allBelow 32 (untakenFrom (p .taken) (p .g)))
     (hem : employers ≡ allBelow 32 (most (p .employer) (p .w)))
     (he : employer ≡ allBelow 32 (zeroFrom (p .employer) (p .g)))
@@ -148,6 +144,6 @@ module _ (p : Pool) {taken employers employer posts posted ids id versions known
     (hw : workers ≡ allBelow 8 (registersFitAt (p .w) (p .g) (p .b) (p .workers)))
     (hm : members ≡ (allBelow 8 (setWithin (p .sets) (p .b)) && allBelow 8 (emptyFrom (p .sets) (p .w)))) where
   pub scanned-by :
-      (countsSound p && taken && (employers && employer) && (posts && posted) && (ids && id) && versions && (known && free) && workers && members)
+      (counts && taken && (employers && employer) && (posts && posted) && (ids && id) && versions && (known && free) && workers && members)
       ≡ soundOf p
-  scanned-by = rw (ht, hem, he, hpm, hp, him, hi, hv, hsm, hs, hw, hm) (scanned p)
+  scanned-by = rw (hc, ht, hem, he, hpm, hp, him, hi, hv, hsm, hs, hw, hm) (scanned p)

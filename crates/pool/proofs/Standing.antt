@@ -23,7 +23,8 @@ use Rattle.pool.specs.Checks.{workerOf, workerCheck}
 use Rattle.pool.specs.Steps.{standCheck}
 use Rattle.pool.specs.ForProofs.Ready.{Ready, Stands}
 use Rattle.pool.proofs.Parts.{parts, sizes-of, placeIn, InUse, worker-in}
-use Rattle.pool.proofs.Checked.{first-both, never, Named, named}
+use Rattle.pool.proofs.Firsts.{first-both, never}
+use Rattle.pool.proofs.Checked.{Named, named}
 
 -- ---- what the check of an advance leaves
 

@@ -5,8 +5,8 @@ use mathlib.Core.Bool.{Bool, true, false}
 use lib.Dec.{eqb, ltb}
 use Rattle.basics.specs.Pick.{when, unless}
 use Rattle.basics.proofs.Picks.{picks}
-use Rattle.pool.specs.Sound.{soundOf}
-use Rattle.pool.specs.Checks.{soundCheck, workerCheck, idCheck, takeCheck}
+use Rattle.pool.specs.Sound.{soundCheck}
+use Rattle.pool.specs.Checks.{workerCheck, idCheck, takeCheck}
 use Rattle.pool.specs.Record.{stateOf}
 use Rattle.pool.specs.declared.Pool.{Pool}
 use Rattle.pool.specs.declared.WorkerNo.{WorkerNo}
@@ -31,6 +31,9 @@ module _ (v : Verdict) {s : Check} (e : verdict v ≡ s) where
 
   pub refuse-by : (r : Refusal) (place : ℕ) → v ≡ Fault r place → s ≡ refuse (numberOf r) place
   refuse-by r place q = sym e ∙ ap verdict q
+
+pub fine-told : (v : Verdict) → v ≡ Fine → verdict v ≡ fine
+fine-told v q = ap verdict q
 
 -- ---- what follows a check, by what the check found
 
@@ -60,25 +63,6 @@ pub answer-refuse : (v : Verdict) (r : Refusal) (place : ℕ) (a : Check) (s : S
 unfolding answerAfter
 answer-refuse v r place a s e q = rw (refuse-by v e r place q)
 
--- ---- a check that the code makes itself, by a test
-
-pub answer-passed : (x : Said) (a : Check) (s : Said) → fine ≡ a → x ≡ s → x ≡ answerAfter a s
-unfolding answerAfter
-answer-passed x a s e h = rw (← e) h
-
-pub answer-failed : (n place : ℕ) (a : Check) (s : Said) → refuse n place ≡ a → refused n place ≡ answerAfter a s
-unfolding answerAfter
-answer-failed n place a s e = rw (← e)
-
--- the check of soundness alone is a test, not a call
-pub sound-first : (p : Pool) (b : Check) → first (soundCheck p) b ≡ unless (soundOf p) (refuse 2 0) b
-unfolding first unless
-sound-first p b = go (soundOf p)
-  where
-    go : (t : Bool) → first (unless t (refuse 2 0) fine) b ≡ unless t (refuse 2 0) b
-    go true = refl
-    go false = refl
-
 -- the check of an id alone
 id-first : (p : Pool) (id place : ℕ) (b : Check)
     → first (idCheck p id place) b ≡ when (ltb id 1) (refuse 9 place) (when (ltb (p .b) id) (refuse 9 place) b)
@@ -93,18 +77,18 @@ id-first p id place b = go (ltb id 1) (ltb (p .b) id)
 
 -- ---- a verdict on numbers of the record is the check of the record
 
-pub judged : (v : Verdict) (s : Bool) (p : Pool) (w : WorkerNo)
-    → verdict v ≡ unless s (refuse 2 0) (when (ltb (w .0) 1) (refuse 3 0) (when (ltb (p .w) (w .0)) (refuse 3 0) fine)) → s ≡ soundOf p
+pub judged : (v s : Verdict) (p : Pool) (w : WorkerNo)
+    → verdict v ≡ first (verdict s) (when (ltb (w .0) 1) (refuse 3 0) (when (ltb (p .w) (w .0)) (refuse 3 0) fine)) → verdict s ≡ soundCheck p
     → verdict v ≡ workerCheck p w
 unfolding workerCheck
 judged v s p w h e = rw e at h
 
-pub take-judged : (v : Verdict) (s : Bool) (p : Pool) (b : BufferId)
-    → verdict v ≡ unless s (refuse 2 0) (when (ltb (b .0) 1) (refuse 9 0) (when (ltb (p .b) (b .0)) (refuse 9 0)
-    (unless (eqb (stateOf p (b .0)) 0) (refuse 11 0) fine))) → s ≡ soundOf p
+pub take-judged : (v s : Verdict) (p : Pool) (b : BufferId)
+    → verdict v ≡ first (verdict s) (when (ltb (b .0) 1) (refuse 9 0) (when (ltb (p .b) (b .0)) (refuse 9 0)
+    (unless (eqb (stateOf p (b .0)) 0) (refuse 11 0) fine))) → verdict s ≡ soundCheck p
     → verdict v ≡ takeCheck p b
 unfolding takeCheck
-take-judged v s p b h e = rw (sound-first, id-first) (rw e at h)
+take-judged v s p b h e = rw id-first (rw e at h)
 
 pub ruleset makes = (picks, same-pool)
 
@@ -112,4 +96,4 @@ pub ruleset checks = (picks, first-fine, first-refuse)
 
 pub ruleset begins = (picks, after-fine, after-refuse, same-pool, same-answer)
 
-pub ruleset answers = (picks, answer-fine, answer-refuse, answer-passed, answer-failed)
+pub ruleset answers = (picks, answer-fine, answer-refuse)

@@ -1,9 +1,10 @@
 -- Each answer in the paper's numbers and values. The rules of every call speak in these; a contract says what the code's answer is by `said`.
-use Prim.Native.Nat.{ℕ}
+use Prim.Native.Nat.{ℕ, zero, suc}
+use mathlib.Core.Bool.{Bool, true, false}
 use Rattle.pool.specs.declared.Pool.{Pool}
 use Rattle.pool.specs.declared.Outcome.{Outcome}
 use Rattle.pool.specs.declared.Refusal.{Refusal}
-use Rattle.pool.specs.declared.Refusal.the-variants.{SizesOutOfRange, NotSound, NoSuchWorker, WorkerNotIdle, WorkerIdle, NoSuchGuard, GuardNotEmployed, GuardPosted, NoSuchBuffer, BufferRepeated, BufferInWrongState, VersionsUsedUp, ListTooShort, MemberNotLeaving}
+use Rattle.pool.specs.declared.Refusal.the-variants.{SizesOutOfRange, CountsOutOfRange, EntryBeyondCounts, KindUnknown, IdOutOfRange, RegisterOutOfRange, NoSuchWorker, WorkerNotIdle, WorkerIdle, NoSuchGuard, GuardNotEmployed, GuardPosted, NoSuchBuffer, BufferRepeated, BufferInWrongState, VersionsUsedUp, ListTooShort, MemberNotLeaving}
 use Rattle.pool.specs.declared.Verdict.{Verdict}
 use Rattle.pool.specs.declared.Verdict.the-variants.{Fine, Fault as Faulty}
 use Rattle.pool.specs.declared.Answer.{Answer}
@@ -12,7 +13,11 @@ use Rattle.pool.specs.declared.Answer.the-variants.{Accepted, Yes, No, A
 -- the table of refusal numbers
 abbrev pub numberOf : Refusal → ℕ
 numberOf SizesOutOfRange = 1
-numberOf NotSound = 2
+numberOf CountsOutOfRange = 21
+numberOf EntryBeyondCounts = 22
+numberOf KindUnknown = 23
+numberOf IdOutOfRange = 24
+numberOf RegisterOutOfRange = 25
 numberOf NoSuchWorker = 3
 numberOf WorkerNotIdle = 4
 numberOf WorkerIdle = 5
@@ -76,6 +81,15 @@ verdict (Faulty r place) = refuse (numberOf r) place
 unfoldable pub first : Check → Check → Check
 first fine b = b
 first (refuse n place) b = refuse n place
+
+-- the first of the checks numbered 0, 1, .., n - 1 that refuses
+unfoldable pub firstBelow : ℕ → (ℕ → Check) → Check
+firstBelow zero f = fine
+firstBelow (suc n) f = first (firstBelow n f) (f n)
+
+abbrev pub isFine : Check → Bool
+isFine fine = true
+isFine (refuse n place) = false
 
 -- a refusal leaves the record as it was
 unfoldable pub afterCheck : Check → Pool → Told → Told

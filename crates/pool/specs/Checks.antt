@@ -1,5 +1,5 @@
 -- What each call refuses, in the order of the paper's table: a chain of tests, and `fine` where none applies.
-use Prim.Native.Nat.{ℕ, zero, suc, _-_}
+use Prim.Native.Nat.{ℕ, _-_}
 use mathlib.Core.List.{List}
 use lib.Dec.{eqb, leb, ltb}
 use lib.ListN.{length, getD}
@@ -10,28 +10,24 @@ use Rattle.pool.specs.declared.WorkerNo.{WorkerNo}
 use Rattle.pool.specs.declared.GuardNo.{GuardNo}
 use Rattle.pool.specs.declared.BufferId.{BufferId}
 use Rattle.pool.specs.declared.Pool.{Pool}
-use Rattle.pool.specs.Answers.{Check, fine, refuse, first}
+use Rattle.pool.specs.Answers.{Check, fine, refuse, first, firstBelow}
 use Rattle.pool.specs.Record.{employerAt, postedAt, stateOf, workerAt}
-use Rattle.pool.specs.Sound.{soundOf}
+use Rattle.pool.specs.Sound.{soundCheck}
 
 abbrev pub workerOf : Pool → WorkerNo → Worker
 workerOf p w = workerAt p (w .0 - 1)
 
 -- ---- what several calls refuse
 
--- 2
-abbrev pub soundCheck : Pool → Check
-soundCheck p = unless (soundOf p) (refuse 2 0) fine
-
--- 2, 3
+-- 21 to 25, 3
 unfoldable pub workerCheck : Pool → WorkerNo → Check
 workerCheck p w =
-    unless (soundOf p) (refuse 2 0)
+    first (soundCheck p)
     (when (ltb (w .0) 1) (refuse 3 0)
     (when (ltb (p .w) (w .0)) (refuse 3 0)
     fine))
 
--- 2, 3, 4
+-- 21 to 25, 3, 4
 unfoldable pub beginCheck : Pool → WorkerNo → Check
 beginCheck p w = first (workerCheck p w) (unless (eqb (workerOf p w .label) 0) (refuse 4 0) fine)
 
@@ -75,9 +71,8 @@ entryCheck p ids k =
     fine))
 
 -- the first n entries: the first at fault decides
-unfoldable pub listCheck : Pool → List ℕ → ℕ → Check
-listCheck p ids zero = fine
-listCheck p ids (suc n) = first (listCheck p ids n) (entryCheck p ids n)
+abbrev pub listCheck : Pool → List ℕ → ℕ → Check
+listCheck p ids n = firstBelow n (entryCheck p ids)
 
 unfoldable pub giveUpCheck : Pool → WorkerNo → List ℕ → Check
 giveUpCheck p w ids = first (beginCheck p w) (listCheck p ids (length ids))

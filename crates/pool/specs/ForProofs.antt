@@ -2,4 +2,5 @@
 -- `specs/`. No public call's contract names any of it.
 pub mod Ready
 pub mod Scans
+pub mod Searches
 pub mod Reach

@@ -8,7 +8,8 @@ use Rattle.pool.specs.declared.WorkerNo.{WorkerNo}
 use Rattle.pool.specs.declared.Pool.{Pool}
 use Rattle.pool.specs.Answers.{Said, count, clear, fault, answerAfter}
 use Rattle.pool.specs.Record.{slotAt, stateOf, setAt}
-use Rattle.pool.specs.Checks.{soundCheck, workerCheck}
+use Rattle.pool.specs.Sound.{soundCheck}
+use Rattle.pool.specs.Checks.{workerCheck}
 
 -- the size of a worker's set
 unfoldable pub setSizeOf : Pool → WorkerNo → Said

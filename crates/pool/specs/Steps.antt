@@ -178,7 +178,7 @@ lineOf l k p =
     (when (eqb l 31) (line31 k p)
     (line32 k p))))))))))))))))
 
--- ---- what an advance refuses: 2, 3, 5, 12, 14, 13
+-- ---- what an advance refuses: 21 to 25, 3, 5, 12, 14, 13
 
 -- 12: a store to a slot whose version is the largest
 abbrev pub versionCheck : Bool → ℕ → Pool → Check
@@ -199,7 +199,7 @@ lineCheck l k p room =
     (when (eqb l 32) (handCheck k p room)
     fine))
 
--- 2, 3, 5
+-- 21 to 25, 3, 5
 unfoldable pub standCheck : Pool → WorkerNo → Check
 standCheck p w = first (workerCheck p w) (when (eqb (workerOf p w .label) 0) (refuse 5 0) fine)
 

@@ -15,7 +15,7 @@ use crate::WorkerNo;
 use crate::checks::worker_verdict;
 use crate::handback::all_leaving;
 use crate::handback::hand;
-use crate::sound::parts_sound;
+use crate::sound::parts_check;
 use idset::IdSet;
 use worker::Worker;
 
@@ -34,7 +34,7 @@ impl Pool {
     {
         let workers = self.workers;
         let sets = self.sets;
-        let sound = parts_sound(
+        let sound = parts_check(
             self.w,
             self.g,
             self.b,

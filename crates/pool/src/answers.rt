@@ -9,7 +9,11 @@ impl Refusal {
     {
         match self {
             Refusal::SizesOutOfRange => 1,
-            Refusal::NotSound => 2,
+            Refusal::CountsOutOfRange => 21,
+            Refusal::EntryBeyondCounts => 22,
+            Refusal::KindUnknown => 23,
+            Refusal::IdOutOfRange => 24,
+            Refusal::RegisterOutOfRange => 25,
             Refusal::NoSuchWorker => 3,
             Refusal::WorkerNotIdle => 4,
             Refusal::WorkerIdle => 5,

@@ -15,7 +15,6 @@ use crate::BufferId;
 use crate::GuardNo;
 use crate::Outcome;
 use crate::Pool;
-use crate::Refusal;
 use crate::Verdict;
 use crate::WorkerNo;
 use crate::checks::take_verdict;
@@ -117,7 +116,7 @@ impl Pool {
     pub fn take(mut self, b: BufferId) -> Outcome
         ensures { λ r. ⌜ told r ≡ takeOf self b ⌝ }
     {
-        let sound = self.sound();
+        let sound = self.soundness();
         let check = take_verdict(sound, self.b, &self.states, b);
         if let Verdict::Fault(refusal, place) = check {
             return Outcome {

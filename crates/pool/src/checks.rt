@@ -1,8 +1,7 @@
 // What is wrong with a call's record and arguments, in the order of the paper's table.
 ghost use mathlib.Core.Path.{_≡_};
 ghost use Rattle.basics.specs.Pick.{when, unless};
-ghost use Rattle.pool.specs.Answers.{verdict, fine, refuse};
-ghost use mathlib.Core.Bool.{true};
+ghost use Rattle.pool.specs.Answers.{verdict, fine, refuse, first};
 ghost use Prim.Native.Nat.{_≤_, _<_, _-_};
 ghost use lib.Dec.{eqb, ltb};
 ghost use lib.ListN.{length, getD};
@@ -14,14 +13,14 @@ use crate::Pool;
 use crate::Refusal;
 use crate::Verdict;
 use crate::WorkerNo;
-use crate::sound::parts_sound;
+use crate::sound::parts_check;
 
-// 2, 3, from whether the record is sound and how many workers it has.
-pub(crate) fn worker_verdict(sound: bool, count: u32, w: WorkerNo) -> Verdict
-    ensures { λ r. ⌜ verdict r ≡ unless sound (refuse 2 0) (when (ltb (w .0) 1) (refuse 3 0) (when (ltb count (w .0)) (refuse 3 0) fine)) ⌝ }
+// 21 to 25, 3, from what the soundness test found and how many workers the record has.
+pub(crate) fn worker_verdict(sound: Verdict, count: u32, w: WorkerNo) -> Verdict
+    ensures { λ r. ⌜ verdict r ≡ first (verdict sound) (when (ltb (w .0) 1) (refuse 3 0) (when (ltb count (w .0)) (refuse 3 0) fine)) ⌝ }
 {
-    if !sound {
-        return Verdict::Fault(Refusal::NotSound, 0);
+    if let Verdict::Fault(rule, place) = sound {
+        return Verdict::Fault(rule, place);
     }
     let no = w.0;
     if no < 1 {
@@ -33,13 +32,13 @@ pub(crate) fn worker_verdict(sound: bool, count: u32, w: WorkerNo) -> Verdict
     Verdict::Fine
 }
 
-// 2, 9, 11, from whether the record is sound, how many buffers it has and their states.
-pub(crate) fn take_verdict(sound: bool, count: u32, states: &[u8; 256], b: BufferId) -> Verdict
-    requires { ⌜ (sound ≡ true → count ≤ 256) ⌝ }
-    ensures { λ r. ⌜ verdict r ≡ unless sound (refuse 2 0) (when (ltb (b .0) 1) (refuse 9 0) (when (ltb count (b .0)) (refuse 9 0) (unless (eqb (getD (now (states .entry)) (b .0 - 1) 0) 0) (refuse 11 0) fine))) ⌝ }
+// 21 to 25, 9, 11, from what the soundness test found, how many buffers the record has and their states.
+pub(crate) fn take_verdict(sound: Verdict, count: u32, states: &[u8; 256], b: BufferId) -> Verdict
+    requires { ⌜ (verdict sound ≡ fine → count ≤ 256) ⌝ }
+    ensures { λ r. ⌜ verdict r ≡ first (verdict sound) (when (ltb (b .0) 1) (refuse 9 0) (when (ltb count (b .0)) (refuse 9 0) (unless (eqb (getD (now (states .entry)) (b .0 - 1) 0) 0) (refuse 11 0) fine))) ⌝ }
 {
-    if !sound {
-        return Verdict::Fault(Refusal::NotSound, 0);
+    if let Verdict::Fault(rule, place) = sound {
+        return Verdict::Fault(rule, place);
     }
     let id = b.0;
     if id < 1 {
@@ -57,13 +56,13 @@ pub(crate) fn take_verdict(sound: bool, count: u32, states: &[u8; 256], b: Buffe
 }
 
 impl Pool {
-    // 2, 3, 4.
+    // 21 to 25, 3, 4.
     pub(crate) fn begin_check(self, w: WorkerNo) -> Verdict
         ensures { λ r. ⌜ verdict r ≡ beginCheck self w ⌝ }
     {
         let workers = self.workers;
         let sets = self.sets;
-        let sound = parts_sound(
+        let sound = parts_check(
             self.w,
             self.g,
             self.b,

@@ -4,6 +4,7 @@
 mod advance;
 mod answers;
 mod begins;
+mod broken;
 mod checks;
 mod handback;
 mod lines;
@@ -40,7 +41,13 @@ pub struct Pool {
 
 pub enum Refusal {
     SizesOutOfRange,
-    NotSound,
+    // The rules of soundness, in the paper's order: W, G, B or MAXG; an entry beyond the counts; an employer, a state or a label that is none; an id;
+    // a register.
+    CountsOutOfRange,
+    EntryBeyondCounts,
+    KindUnknown,
+    IdOutOfRange,
+    RegisterOutOfRange,
     NoSuchWorker,
     WorkerNotIdle,
     WorkerIdle,
@@ -71,7 +78,7 @@ pub enum Answer {
     Clear,
     // The lowest buffer at fault, with its number of places.
     Fault(BufferId, u32),
-    // With a place: an index into a give-up list, and otherwise 0.
+    // With a place: of a broken rule the guard, buffer or worker at fault, of an entry of a give-up list its index, and otherwise 0.
     Refused(Refusal, usize),
 }
 
@@ -100,8 +107,8 @@ struct Moved {
     reach: Reach,
 }
 
-// What a check of a call's record and arguments found.
-enum Verdict {
+// What a check of a record, or of a call's record and arguments, found.
+pub enum Verdict {
     Fine,
     Fault(Refusal, usize),
 }

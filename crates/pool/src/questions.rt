@@ -9,7 +9,6 @@ ghost use Rattle.pool.specs.Questions.{setSizeOf, leavingCountOf, auditF
 use crate::Answer;
 use crate::BufferId;
 use crate::Pool;
-use crate::Refusal;
 use crate::Verdict;
 use crate::WorkerNo;
 use crate::checks::worker_verdict;
@@ -30,7 +29,7 @@ impl Pool {
     pub fn set_size(self, w: WorkerNo) -> Answer
         ensures { λ r. ⌜ said r ≡ setSizeOf self w ⌝ }
     {
-        let sound = self.sound();
+        let sound = self.soundness();
         let check = worker_verdict(sound, self.w, w);
         match check {
             Verdict::Fault(refusal, place) => Answer::Refused(refusal, place),
@@ -46,9 +45,9 @@ impl Pool {
     pub fn leaving_count(self) -> Answer
         ensures { λ r. ⌜ said r ≡ leavingCountOf self ⌝ }
     {
-        let sound = self.sound();
-        if !sound {
-            return Answer::Refused(Refusal::NotSound, 0);
+        let sound = self.soundness();
+        if let Verdict::Fault(rule, place) = sound {
+            return Answer::Refused(rule, place);
         }
         Answer::Count(count_leaving(&self.states))
     }
@@ -57,9 +56,9 @@ impl Pool {
     pub fn audit(self) -> Answer
         ensures { λ r. ⌜ said r ≡ auditOf self ⌝ }
     {
-        let sound = self.sound();
-        if !sound {
-            return Answer::Refused(Refusal::NotSound, 0);
+        let sound = self.soundness();
+        if let Verdict::Fault(rule, place) = sound {
+            return Answer::Refused(rule, place);
         }
         self.first_fault()
     }

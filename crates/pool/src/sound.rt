@@ -1,20 +1,22 @@
 // Whether a record is sound. Each scan asks every entry and leaves none early, so that it runs as vector code; the arrays are lent and
-// not copied.
+// not copied. Only a record that is not sound is searched for the rule that it breaks.
 ghost use mathlib.Core.Path.{_≡_};
 ghost use mathlib.Core.Bool.{_&&_};
-ghost use lib.Dec.{leb};
+ghost use lib.Dec.{ltb};
 ghost use Rattle.basics.specs.Below.{allBelow};
 ghost use Rattle.pool.specs.Record.{recordOf};
-ghost use Rattle.pool.specs.Sound.{isLabel, soundOf};
+ghost use Rattle.pool.specs.Answers.{verdict};
+ghost use Rattle.pool.specs.Sound.{inRange, zeroWorker, isLabel, registersIn, soundCheck, soundOf};
 ghost use Rattle.pool.specs.ForProofs.Scans.{most, zeroFrom, untakenFrom, registersFit, registersFitAt, setWithin, emptyFrom};
 use crate::Pool;
+use crate::Verdict;
 use idset::IdSet;
 use worker::Worker;
 
 // Bit l is set exactly for a label l.
 const LABELS: u64 = 0x1_9244_b7f5;
 
-fn is_label(l: u32) -> bool
+pub(crate) fn is_label(l: u32) -> bool
     ensures { λ r. ⌜ r ≡ isLabel l ⌝ }
 {
     (l < 64) & ((LABELS >> (l % 64)) % 2 == 1)
@@ -83,26 +85,40 @@ fn free_from(xs: &[u8; 256], count: u32) -> bool
     ok
 }
 
-// A worker without its set.
-fn registers_fit(x: Worker, used: bool, g: u32, b: u32) -> bool
-    ensures { λ r. ⌜ r ≡ registersFit g b used x ⌝ }
+// Idle, its registers 0.
+pub(crate) fn zero_worker(x: Worker) -> bool
+    ensures { λ r. ⌜ r ≡ zeroWorker x ⌝ }
 {
-    let l = x.label;
     let h = x.h;
-    let idle = (l == 0)
+    (x.label == 0)
         & (x.i == 0)
         & (x.v == 0)
         & (h.id == 0)
         & (h.version == 0)
         & (x.attempts == 0)
-        & (x.max == 0);
-    let ids = (x.v <= b) & (h.id <= b);
-    let registers = ((x.i < g) | (((l == 12) | (l == 32)) & (x.i == g)))
+        & (x.max == 0)
+}
+
+pub(crate) fn registers_in(x: Worker, g: u32) -> bool
+    ensures { λ r. ⌜ r ≡ registersIn g x ⌝ }
+{
+    let l = x.label;
+    ((x.i < g) | (((l == 12) | (l == 32)) & (x.i == g)))
         & (x.max < g)
         & (x.attempts <= 3)
-        & ((x.attempts <= 2) | !((l == 15) | (l == 18) | (l == 22) | (l == 25)));
-    let known = is_label(l);
-    (used | idle) & known & ids & registers
+        & ((x.attempts <= 2) | !((l == 15) | (l == 18) | (l == 22) | (l == 25)))
+}
+
+// A worker without its set.
+fn registers_fit(x: Worker, used: bool, g: u32, b: u32) -> bool
+    ensures { λ r. ⌜ r ≡ registersFit g b used x ⌝ }
+{
+    let h = x.h;
+    let ids = (x.v <= b) & (h.id <= b);
+    let zero = zero_worker(x);
+    let registers = registers_in(x, g);
+    let known = is_label(x.label);
+    (used | zero) & known & ids & registers
 }
 
 fn workers_fit(xs: [Worker; 8], w: u32, g: u32, b: u32) -> bool
@@ -141,8 +157,14 @@ fn sets_fit(ss: [IdSet; 8], count: u32, limit: u32) -> bool
     within & none
 }
 
-// The whole test, from the record's parts, so that a call lends them and copies no record for it.
-pub(crate) fn parts_sound<'a>(
+pub(crate) fn counts_sound(w: u32, g: u32, b: u32, maxg: u32) -> bool
+    ensures { λ r. ⌜ r ≡ (inRange w g b && ltb maxg g) ⌝ }
+{
+    (1 <= w) & (w <= 8) & (1 <= g) & (g <= 32) & (1 <= b) & (b <= 256) & (maxg < g)
+}
+
+// All the scans.
+fn parts_sound<'a>(
     w: u32,
     g: u32,
     b: u32,
@@ -158,7 +180,7 @@ pub(crate) fn parts_sound<'a>(
 ) -> bool
     ensures { λ r. ⌜ r ≡ soundOf (recordOf w g b maxg (now (taken .entry)) (now (employer .entry)) (now (posted .entry)) (now («slot_id» .entry)) (now («slot_version» .entry)) (now (states .entry)) workers sets) ⌝ }
 {
-    let counts = (1 <= w) & (w <= 8) & (1 <= g) & (g <= 32) & (1 <= b) & (b <= 256) & (maxg < g);
+    let counts = counts_sound(w, g, b, maxg);
     let guards = untaken_from(taken, g);
     let employers = at_most(employer, w) & zero_from(employer, g);
     let posts = at_most(posted, b) & zero_from(posted, g);
@@ -170,14 +192,65 @@ pub(crate) fn parts_sound<'a>(
     counts & guards & employers & posts & ids & versions & buffers & entries & members
 }
 
+// The whole test, from the record's parts, so that a call lends them and copies no record for it.
+pub(crate) fn parts_check<'a>(
+    w: u32,
+    g: u32,
+    b: u32,
+    maxg: u32,
+    taken: &'a [bool; 32],
+    employer: &'a [u32; 32],
+    posted: &'a [u32; 32],
+    slot_id: &'a [u32; 32],
+    slot_version: &'a [u32; 32],
+    states: &'a [u8; 256],
+    workers: [Worker; 8],
+    sets: [IdSet; 8],
+) -> Verdict
+    ensures { λ r. ⌜ verdict r ≡ soundCheck (recordOf w g b maxg (now (taken .entry)) (now (employer .entry)) (now (posted .entry)) (now («slot_id» .entry)) (now («slot_version» .entry)) (now (states .entry)) workers sets) ⌝ }
+{
+    let sound = parts_sound(
+        w,
+        g,
+        b,
+        maxg,
+        taken,
+        employer,
+        posted,
+        slot_id,
+        slot_version,
+        states,
+        workers,
+        sets,
+    );
+    if sound {
+        return Verdict::Fine;
+    }
+    let pool = Pool {
+        w: w,
+        g: g,
+        b: b,
+        maxg: maxg,
+        taken: *taken,
+        employer: *employer,
+        posted: *posted,
+        slot_id: *slot_id,
+        slot_version: *slot_version,
+        states: *states,
+        workers: workers,
+        sets: sets,
+    };
+    pool.broken_rule()
+}
+
 impl Pool {
-    // For any record whatever.
-    pub fn sound(self) -> bool
-        ensures { λ r. ⌜ r ≡ soundOf self ⌝ }
+    // For any record whatever: nothing, or the first rule that it breaks and the place.
+    pub fn soundness(self) -> Verdict
+        ensures { λ r. ⌜ verdict r ≡ soundCheck self ⌝ }
     {
         let workers = self.workers;
         let sets = self.sets;
-        parts_sound(
+        parts_check(
             self.w,
             self.g,
             self.b,

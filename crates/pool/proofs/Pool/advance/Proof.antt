@@ -26,7 +26,7 @@ list c = c .before .before .before .before .before .before .before .before .befo
 
 checked : (c : tie.After-worker-verdict) → verdict (c .worker-verdict .result) ≡ workerCheck (pool c) (worker c)
 checked c =
-    judged (c .worker-verdict .result) (c .before .parts-sound .result) (pool c) (worker c) (c .worker-verdict .ensures) (c .before .parts-sound .ensures)
+    judged (c .worker-verdict .result) (c .before .parts-check .result) (pool c) (worker c) (c .worker-verdict .ensures) (c .before .parts-check .ensures)
 
 -- from where the worker is known to be one of the pool's, and from where it is known to be busy
 abbrev check : tie.After-enum-told → tie.After-worker-verdict
@@ -46,8 +46,8 @@ below c = entry-below _ (pool (check c)) (worker (check c)) (checked (check c)) 
 
 -- ---- what the code asks
 
-parts-sound-requires : tie.Need-parts-sound-requires
-parts-sound-requires c κs = search needs
+parts-check-requires : tie.Need-parts-check-requires
+parts-check-requires c κs = search needs
 
 worker-verdict-requires : tie.Need-worker-verdict-requires
 worker-verdict-requires c κs = search needs
@@ -195,7 +195,7 @@ pub advance-spec : {M : Type 1} → statement M
 advance-spec =
     tie.close
     (tie.spec
-    parts-sound-requires
+    parts-check-requires
     worker-verdict-requires
     enum-known-check
     returns

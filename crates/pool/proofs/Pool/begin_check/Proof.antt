@@ -18,11 +18,11 @@ known : (c : tie.After-enum-told) → Named (pool (c .before .before)) (worker (
 known c =
     let v = c .before .before in
     named-by (v .worker-verdict .result) (pool v) (worker v)
-    (judged (v .worker-verdict .result) (v .before .parts-sound .result) (pool v) (worker v) (v .worker-verdict .ensures) (v .before .parts-sound .ensures))
+    (judged (v .worker-verdict .result) (v .before .parts-check .result) (pool v) (worker v) (v .worker-verdict .ensures) (v .before .parts-check .ensures))
     (c .enum-told .given .1)
 
-parts-sound-requires : tie.Need-parts-sound-requires
-parts-sound-requires c κs = search needs
+parts-check-requires : tie.Need-parts-check-requires
+parts-check-requires c κs = search needs
 
 worker-verdict-requires : tie.Need-worker-verdict-requires
 worker-verdict-requires c κs = search needs
@@ -61,7 +61,7 @@ pub begin-check-spec : {M : Type 1} → statement M
 begin-check-spec =
     tie.close
     (tie.spec
-    parts-sound-requires
+    parts-check-requires
     worker-verdict-requires
     enum-known-check
     enum-told

@@ -18,11 +18,11 @@ known : (c : tie.After-enum-told) → Named (pool (c .before .before)) (worker (
 known c =
     let v = c .before .before in
     named-by (v .worker-verdict .result) (pool v) (worker v)
-    (judged (v .worker-verdict .result) (v .before .sound .result) (pool v) (worker v) (v .worker-verdict .ensures) (v .before .sound .ensures))
+    (judged (v .worker-verdict .result) (v .before .soundness .result) (pool v) (worker v) (v .worker-verdict .ensures) (v .before .soundness .ensures))
     (c .enum-told .given .1)
 
-sound-requires : tie.Need-sound-requires
-sound-requires c κs = search needs
+soundness-requires : tie.Need-soundness-requires
+soundness-requires c κs = search needs
 
 worker-verdict-requires : tie.Need-worker-verdict-requires
 worker-verdict-requires c κs = search needs
@@ -60,7 +60,7 @@ pub set-size-spec : {M : Type 1} → statement M
 set-size-spec =
     tie.close
     (tie.spec
-    sound-requires
+    soundness-requires
     worker-verdict-requires
     enum-known-check
     enum-told

@@ -19,10 +19,10 @@ buffer c = c .before .before .before .before .args .b
 
 checked : (c : tie.After-take-verdict) → verdict (c .take-verdict .result) ≡ takeCheck (pool c) (buffer c)
 checked c =
-    take-judged (c .take-verdict .result) (c .before .before .before .sound .result) (pool c) (buffer c) (c .take-verdict .ensures) (c .before .before .before .sound .ensures)
+    take-judged (c .take-verdict .result) (c .before .before .before .soundness .result) (pool c) (buffer c) (c .take-verdict .ensures) (c .before .before .before .soundness .ensures)
 
-sound-requires : tie.Need-sound-requires
-sound-requires c κs = search needs
+soundness-requires : tie.Need-soundness-requires
+soundness-requires c κs = search needs
 
 take-verdict-requires : tie.Need-take-verdict-requires
 take-verdict-requires c κs = search buffers-if
@@ -54,7 +54,7 @@ pub take-spec : {M : Type 1} → statement M
 take-spec =
     tie.close
     (tie.spec
-    sound-requires
+    soundness-requires
     take-verdict-requires
     enum-known-check
     returns

@@ -4,6 +4,9 @@ use Rattle.pool.proofs.Scans.{scanned-by}
 use Rattle.pool.proofs.sound.parts_sound.Statement.{statement}
 use Rattle.pool.proofs.sound.parts_sound.Tie as tie
 
+counts-sound-requires : tie.Need-counts-sound-requires
+counts-sound-requires c κs = search needs
+
 untaken-from-requires : tie.Need-untaken-from-requires
 untaken-from-requires c κs = search needs
 
@@ -42,12 +45,13 @@ workers-fit-requires c κs = search needs
 
 returns : tie.Need-returns
 returns c =
-    scanned-by _ (c .before .before .before .before .before .before .before .before .before .before .before .untaken-from .ensures) (c .before .before .before .before .before .before .before .before .before .before .at-most .ensures) (c .before .before .before .before .before .before .before .before .before .zero-from .ensures) (c .before .before .before .before .before .before .before .before .at-most2 .ensures) (c .before .before .before .before .before .before .before .zero-from2 .ensures) (c .before .before .before .before .before .before .at-most3 .ensures) (c .before .before .before .before .before .zero-from3 .ensures) (c .before .before .before .before .zero-from4 .ensures) (c .before .before .before .states-known .ensures) (c .before .before .free-from .ensures) (c .workers-fit .ensures) (c .before .sets-fit .ensures)
+    scanned-by _ (c .before .before .before .before .before .before .before .before .before .before .before .before .counts-sound .ensures) (c .before .before .before .before .before .before .before .before .before .before .before .untaken-from .ensures) (c .before .before .before .before .before .before .before .before .before .before .at-most .ensures) (c .before .before .before .before .before .before .before .before .before .zero-from .ensures) (c .before .before .before .before .before .before .before .before .at-most2 .ensures) (c .before .before .before .before .before .before .before .zero-from2 .ensures) (c .before .before .before .before .before .before .at-most3 .ensures) (c .before .before .before .before .before .zero-from3 .ensures) (c .before .before .before .before .zero-from4 .ensures) (c .before .before .before .states-known .ensures) (c .before .before .free-from .ensures) (c .workers-fit .ensures) (c .before .sets-fit .ensures)
 
 pub parts-sound-spec : {M : Type 1} → statement M
 parts-sound-spec =
     tie.close
     (tie.spec
+    counts-sound-requires
     untaken-from-requires
     at-most-requires
     zero-from-requires
