@@ -24,7 +24,8 @@ use Rattle.pool.specs.Checks.{beginCheck, fireCheck, postCheck, listCheck, give
 use Rattle.pool.specs.Begins.{hireOf, fireOf, postOf, leaving, giveUpOf, takeOf, askOf}
 use Rattle.pool.specs.Steps.{puts, ends, line2, line18, line28, freed, lineOf, standCheck, advanceCheck, advanceOf}
 use Rattle.pool.proofs.Parts.{sizes-of}
-use Rattle.pool.proofs.Checked.{first-both, takes, gives-up}
+use Rattle.pool.proofs.Firsts.{first-both}
+use Rattle.pool.proofs.Checked.{takes, gives-up}
 use Rattle.pool.proofs.Standing.{stands, worker-below}
 use Rattle.rules.specs.Calls.{Call, hiring, firing, posting, giving-up, taking, asking, advancing, call}
 use Rattle.rules.proofs.EachLine.{by-line}

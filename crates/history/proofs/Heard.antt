@@ -27,7 +27,8 @@ use Rattle.pool.specs.Checks.{workerOf, beginCheck, fireCheck, postCheck, giveU
 use Rattle.pool.specs.Begins.{hireOf, fireOf, postOf, giveUpOf, takeOf, askOf}
 use Rattle.pool.specs.Steps.{puts, ends, line2, line18, line28, line32, lineOf, standCheck, advanceCheck, advanceOf, handed, listAfterCheck, listAfter}
 use Rattle.pool.proofs.Parts.{sizes-of}
-use Rattle.pool.proofs.Checked.{first-both, takes}
+use Rattle.pool.proofs.Firsts.{first-both}
+use Rattle.pool.proofs.Checked.{takes}
 use Rattle.pool.proofs.Standing.{stands, before32, last-label}
 use Rattle.rules.specs.Calls.{Call, hiring, firing, posting, giving-up, taking, asking, advancing, call, listOf}
 use Rattle.rules.proofs.EachLine.{by-line}

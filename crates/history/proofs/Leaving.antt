@@ -33,7 +33,7 @@ module _ (p : Pool) (sound : soundOf p ≡ true) where
       let x = workerAt p k in
       within-true (setAt p k) (p .b)
       (and-right (leb (x .v) (p .b) && leb (x .h .id) (p .b)) (withinOf (setAt p k) (p .b))
-      (all-at 8 (λ k. workerIds (p .b) (workerAt p k) (setAt p k)) (parts sound .worker-ids) k l))
+      (all-at 8 (workerIds p) (parts sound .worker-ids) k l))
 
   free-beyond : (k : ℕ) → k < 256 → p .b ≤ k → stateOf p (suc k) ≡ 0
   free-beyond k l beyond =

@@ -32,7 +32,8 @@ use Rattle.pool.specs.Begins.{hireOf, fireOf, postOf, leaving, giveUpOf, takeOf
 use Rattle.pool.specs.Steps.{iOf, postedHere, unchanged, unposted, puts, ends, line2, line18, line28, freed, lineOf, standCheck, advanceCheck, advanceOf}
 use Rattle.pool.specs.ForProofs.Ready.{Stands}
 use Rattle.pool.proofs.Parts.{sizes-of}
-use Rattle.pool.proofs.Checked.{first-both, Begun, begun, fires, posts, takes, GivesUp, gives-up}
+use Rattle.pool.proofs.Firsts.{first-both}
+use Rattle.pool.proofs.Checked.{Begun, begun, fires, posts, takes, GivesUp, gives-up}
 use Rattle.pool.proofs.Standing.{stands, worker-below, ready}
 use Rattle.rules.specs.Calls.{Call, hiring, firing, posting, giving-up, taking, asking, advancing, call}
 use Rattle.rules.proofs.EachLine.{by-line}

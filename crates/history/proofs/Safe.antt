@@ -17,7 +17,7 @@ use Rattle.pool.specs.Answers.{Said, Told, back, label, afterCheck}
 use Rattle.pool.specs.Record.{blank, workerAt, setAt}
 use Rattle.pool.specs.Steps.{puts, ends, line2, line18, line28, line32, lineOf, standCheck, advanceCheck, advanceOf, handed, listAfter}
 use Rattle.pool.proofs.Parts.{sizes-of}
-use Rattle.pool.proofs.Checked.{first-both}
+use Rattle.pool.proofs.Firsts.{first-both}
 use Rattle.pool.proofs.Standing.{stands, before32, last-label}
 use Rattle.rules.specs.Calls.{call, listOf}
 use Rattle.rules.proofs.EachLine.{by-line}

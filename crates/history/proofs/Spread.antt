@@ -96,7 +96,7 @@ module _ (p : Pool) (sound : soundOf p ≡ true) (long : Shaped p) (a : Placed p
   set-id k b l m =
       within-true (setAt p k) (p .b)
       (and-right (leb (workerAt p k .v) (p .b) && leb (workerAt p k .h .id) (p .b)) _
-      (all-at 8 (λ k. workerIds (p .b) (workerAt p k) (setAt p k)) (parts sound .worker-ids) k l)) b m
+      (all-at 8 (workerIds p) (parts sound .worker-ids) k l)) b m
 
   leaves : (id : ℕ) → wanted (p .states) id ≡ 1 → stateOf p id ≡ 2
   leaves id e = eqb-true _ _ (one-eq _ e)

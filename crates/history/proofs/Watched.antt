@@ -27,7 +27,8 @@ use Rattle.pool.specs.Checks.{beginCheck, fireCheck, postCheck, giveUpCheck, ta
 use Rattle.pool.specs.Begins.{hireOf, fireOf, postOf, giveUpOf, takeOf, askOf}
 use Rattle.pool.specs.Steps.{iOf, postedHere, slotHere, unchanged, unposted, puts, ends, line2, line18, line28, lineOf, standCheck, advanceCheck, advanceOf}
 use Rattle.pool.specs.ForProofs.Ready.{Stands}
-use Rattle.pool.proofs.Checked.{first-both, Begun, begun, fires, posts, gives-up}
+use Rattle.pool.proofs.Firsts.{first-both}
+use Rattle.pool.proofs.Checked.{Begun, begun, fires, posts, gives-up}
 use Rattle.pool.proofs.Standing.{stands, standing, in-use, worker-below, ready}
 use Rattle.rules.specs.Calls.{Call, hiring, firing, posting, giving-up, taking, asking, advancing, call}
 use Rattle.rules.proofs.EachLine.{by-line}

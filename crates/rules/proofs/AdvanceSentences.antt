@@ -141,10 +141,10 @@ module _ (p : Pool) (w : ℕ) (out : List ℕ) where
   l = workerAt p k .label
 
   -- where the refusal is the label's own
-  refused-at : (n : ℕ) → 7 < n → answer (advancing w out) p ≡ refused n 0 → (standCheck p no ≡ fine) × (lineCheck l k p (length out) ≡ refuse n 0)
+  refused-at : (n : ℕ) → 7 < n → n < 21 → answer (advancing w out) p ≡ refused n 0 → (standCheck p no ≡ fine) × (lineCheck l k p (length out) ≡ refuse n 0)
   unfolding call advanceOf advanceCheck
-  refused-at n high h =
-      first-second (standCheck p no) _ n 0 (λ q. omega (arith, stand-up p no n 0 q))
+  refused-at n high low h =
+      first-second (standCheck p no) _ n 0 (λ q. omega (arith, stand-up p no n 0 q high))
       (said-refused (advanceCheck p no (length out)) p _ n 0 (lines-answered l k p n 0) h)
 
   stands-at : (n : ℕ) → standCheck p no ≡ fine → l ≡ n → At p w n
@@ -157,7 +157,7 @@ module _ (p : Pool) (w : ℕ) (out : List ℕ) where
   -- 12: the store that was to be
   store-refused : answer (advancing w out) p ≡ refused 12 0 → MayStore p w × (slotHere p k .version ≡ 4294967295)
   store-refused h =
-      let c = refused-at 12 (omega arith) h in
+      let c = refused-at 12 (omega arith) (omega arith) h in
       by-label l k p (length out) 12 (c .1)
       (λ e q. version-refused (unchanged k p) k p 12 q (λ _ same largest. (at-18 (stands-at 18 (c .0) e) (same-slot k p same), largest)))
       (λ e q.
@@ -176,9 +176,9 @@ module _ (p : Pool) (w : ℕ) (out : List ℕ) where
       (version-refuses (collects k p) k p (rw (ne-eqb _ _ some, ne-eqb _ _ other) (slot-same k p same)) e)
 
   -- 13 and 14 are given at 32 alone
-  refused-at-32 : (n : ℕ) → 12 < n → answer (advancing w out) p ≡ refused n 0 → At p w 32 × (handCheck k p (length out) ≡ refuse n 0)
-  refused-at-32 n high h =
-      let c = refused-at n (omega arith) h in
+  refused-at-32 : (n : ℕ) → 12 < n → n < 21 → answer (advancing w out) p ≡ refused n 0 → At p w 32 × (handCheck k p (length out) ≡ refuse n 0)
+  refused-at-32 n high low h =
+      let c = refused-at n (omega arith) low h in
       by-label l k p (length out) n (c .1)
       (λ e q. version-refused (unchanged k p) k p n q (λ z _ _. absurd (omega arith)))
       (λ e q. version-refused (collects k p) k p n q (λ z _ _. absurd (omega arith)))
@@ -199,13 +199,13 @@ advance-sentences =
       versions-used-up = λ p w out. (store-refused p w out, λ c. refuses-store p w out (c .0) (c .1));
       not-leaving = λ p w out. (
         λ h.
-            let c = refused-at-32 p w out 14 (omega arith) h in
+            let c = refused-at-32 p w out 14 (omega arith) (omega arith) h in
             (c .0, hand-refused (w - 1) p (length out) 14 (c .1) (λ _ a. a) (λ z _ _. absurd (omega arith))),
         λ c. refuses-at-32 p w out 14 (c .0) (refuses-14 (w - 1) p (length out) (c .1)),
       );
       list-too-short = λ p w out. (
         λ h.
-            let c = refused-at-32 p w out 13 (omega arith) h in
+            let c = refused-at-32 p w out 13 (omega arith) (omega arith) h in
             hand-refused (w - 1) p (length out) 13 (c .1) (λ z _. absurd (omega arith)) (λ _ f l. (c .0, f, l)),
         λ c. refuses-at-32 p w out 13 (c .0) (refuses-13 (w - 1) p (length out) (c .1) (c .2)),
       );

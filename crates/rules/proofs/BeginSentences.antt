@@ -3,7 +3,7 @@ use mathlib.Core.Path.{_≡_, refl, sym, ap, _∙_}
 use mathlib.Core.Logic.{_↔_}
 use mathlib.Core.Bool.{Bool, true, false, true≢false}
 use mathlib.Core.List.{List}
-use Prim.Native.Nat.{ℕ, zero, suc, _-_, _≤_, _<_}
+use Prim.Native.Nat.{ℕ, _-_, _≤_, _<_}
 use native.Mathlib.Omega.{arith}
 use lib.Dec.{eqb}
 use lib.ListN.{length, getD}
@@ -14,10 +14,11 @@ use Rattle.basics.proofs.Any.{any-true, any-false}
 use Rattle.pool.specs.declared.Pool.{Pool}
 use Rattle.pool.specs.Answers.{Check, fine, refuse, first, answering, afterCheck, yes as said-yes, no as said-no}
 use Rattle.pool.specs.Record.{postedAt, stateOf}
-use Rattle.pool.specs.Sound.{soundOf}
-use Rattle.pool.specs.Checks.{soundCheck, beginCheck, guardCheck, idCheck, fireCheck, postCheck, entryCheck, listCheck, giveUpCheck, takeCheck, askCheck}
+use Rattle.pool.specs.Sound.{soundCheck, soundOf}
+use Rattle.pool.specs.Checks.{beginCheck, guardCheck, idCheck, fireCheck, postCheck, entryCheck, listCheck, giveUpCheck, takeCheck, askCheck}
 use Rattle.pool.specs.Begins.{hireOf, fireOf, postOf, giveUpOf, takeOf, askOf}
-use Rattle.pool.proofs.Checked.{sound-of, begun, employed, buffer, fires, posts, takes, asks, gives-up}
+use Rattle.pool.proofs.Firsts.{all-fine}
+use Rattle.pool.proofs.Checked.{sound-of, sound-passes, begun, employed, buffer, fires, posts, takes, asks, gives-up}
 use Rattle.rules.specs.Calls.{asking, call}
 use Rattle.rules.specs.Sentences.{answer, Idle, Employs, IsBuffer, MayLeave, BeginSentences}
 use Rattle.rules.proofs.Outcomes.{apart, accepted-apart, fine-apart, after-both, fine-says, refuse-says, said-accepted, said-refused, first-second}
@@ -41,8 +42,8 @@ module _ (p : Pool) (w g : ℕ) where
   fire-found : fireCheck p (record { 0 = w }) (record { 0 = g }) ≡ refuse 8 0 → Idle p w × Employs p w g × (eqb (postedAt p g) 0 ≡ false)
   unfolding fireCheck
   fire-found e =
-      let a = first-second (beginCheck p _) _ 8 0 (λ q. omega (arith, begin-up p _ 8 0 q)) e in
-      let b = first-second (guardCheck p _ _) _ 8 0 (λ q. omega (arith, guard-up p _ _ 8 0 q)) (a .1) in
+      let a = first-second (beginCheck p _) _ 8 0 (λ q. omega (arith, begin-up p _ 8 0 q (omega arith))) e in
+      let b = first-second (guardCheck p _ _) _ 8 0 (λ q. omega (arith, guard-up p _ _ 8 0 q (omega arith))) (a .1) in
       (idle-worker (begun p _ (a .0)), employs (employed p _ _ (b .0)), unless-failed _ 8 0 8 0 (b .1))
 
   post-passes : (b : ℕ) → Idle p w → Employs p w g → b ≤ p .b → postCheck p (record { 0 = w }) (record { 0 = g }) (record { 0 = b }) ≡ fine
@@ -57,9 +58,7 @@ module _ (p : Pool) (ids : List ℕ) where
       rw (id-passes p id k (a .buffer), any-false k (λ j. eqb (getD ids j 0) id) (λ j l. ne-eqb (getD ids j 0) id (a .unrepeated j l)), a .in-service)
 
   list-passes : (n : ℕ) → ((k : ℕ) → k < n → MayLeave p ids k) → listCheck p ids n ≡ fine
-  unfolding listCheck first
-  list-passes zero f = refl
-  list-passes (suc n) f = rw (list-passes n (λ k l. f k (omega arith)), entry-passes n (f n (omega arith)))
+  list-passes n f = all-fine (entryCheck p ids) n (λ k l. entry-passes k (f k l))
 
   give-up-passes : (w : ℕ) → Idle p w → ((k : ℕ) → k < length ids → MayLeave p ids k) → giveUpCheck p (record { 0 = w }) ids ≡ fine
   unfolding giveUpCheck first
@@ -78,13 +77,13 @@ module _ (p : Pool) (ids : List ℕ) where
 module _ (p : Pool) (b : ℕ) where
   take-finds : soundOf p ≡ true → IsBuffer p b → (t : Check) → unless (eqb (stateOf p b) 0) (refuse 11 0) fine ≡ t → takeCheck p (record { 0 = b }) ≡ t
   unfolding takeCheck first unless
-  take-finds sound a t e = rw (sound, id-passes p b 0 a) e
+  take-finds sound a t e = rw (sound-passes p sound, id-passes p b 0 a) e
 
   take-found : takeCheck p (record { 0 = b }) ≡ refuse 11 0 → (soundOf p ≡ true) × IsBuffer p b × (eqb (stateOf p b) 0 ≡ false)
   unfolding takeCheck
   take-found e =
-      let a = first-second (soundCheck p) _ 11 0 (λ q. omega (arith, sound-up p 11 0 q)) e in
-      let c = first-second (idCheck p b 0) _ 11 0 (λ q. omega (arith, id-up p b 0 11 0 q)) (a .1) in
+      let a = first-second (soundCheck p) _ 11 0 (λ q. omega (arith, sound-up p 11 0 q (omega arith))) e in
+      let c = first-second (idCheck p b 0) _ 11 0 (λ q. omega (arith, id-up p b 0 11 0 q (omega arith))) (a .1) in
       (sound-of p (a .0), is-buffer (buffer p b 0 (c .0)), unless-failed _ 11 0 11 0 (c .1))
 
   ask-passes : (w : ℕ) → Idle p w → IsBuffer p b → askCheck p (record { 0 = w }) (record { 0 = b }) ≡ fine

@@ -16,10 +16,11 @@ use Rattle.idset.specs.Members.{memberOf, noIds}
 use Rattle.idset.proofs.Members.{member-none}
 use Rattle.idset.proofs.Within.{none-within}
 use Rattle.worker.specs.Registers.{noWorker}
-use Rattle.pool.specs.Answers.{answering, accepted, refused}
+use Rattle.pool.specs.Answers.{first, answering, accepted, refused}
 use Rattle.pool.specs.Record.{setAt, blank}
-use Rattle.pool.specs.Sound.{inRange, guardsBeyond, buffersBeyond, workersBeyond, beyondSound, kindsSound, idsSound, registersSound, soundOf}
+use Rattle.pool.specs.Sound.{inRange, guardsBeyond, buffersBeyond, workersBeyond, countsCheck, soundCheck, soundOf}
 use Rattle.pool.specs.Make.{makeOf, Fresh}
+use Rattle.pool.proofs.Parts.{Parts, whole}
 use Rattle.rules.specs.Fresh.{MadeFresh}
 
 pub made : (w g b : ℕ) → inRange w g b ≡ true → makeOf w g b ≡ answering accepted (blank w g b)
@@ -62,35 +63,25 @@ module _ (w g b : ℕ) (h : inRange w g b ≡ true) where
   some : ltb 0 g ≡ true
   some = lt-ltb 0 g (leb-true 1 g (each (leb 1 w) (leb w 8 ∷ leb 1 g ∷ leb g 32 ∷ leb 1 b ∷ leb b 256 ∷ []) h .1 .1 .0))
 
-  made-beyond : beyondSound (blank w g b) ≡ true
-  unfolding beyondSound
-  made-beyond =
-      ap₂ _&&_
-      (ap₂ _&&_
-      (all-of 32 (guardsBeyond (blank w g b)) (λ i l. or-right (ltb i g) _ (rw (repeated 32 i false, zeros 32 i))))
-      (all-of 256 (buffersBeyond (blank w g b)) (λ k l. or-right (ltb k b) _ (rw (zeros 256 (suc k - 1))))))
-      (all-of 8 (workersBeyond (blank w g b)) (λ k l. or-right (ltb k w) _ (rw (repeated 8 k noWorker, set-of-blank w g b k l) (none-within 0))))
-
-  made-kinds : kindsSound (blank w g b) ≡ true
-  unfolding kindsSound anyBelow
-  made-kinds =
-      ap₂ _&&_
-      (ap₂ _&&_ (all-of 32 _ (λ i l. rw (zeros 32 i) (le-leb 0 w (omega arith)))) (all-of 256 _ (λ k l. rw (zeros 256 (suc k - 1)))))
-      (all-of 8 _ (λ k l. rw (repeated 8 k noWorker)))
-
-  made-ids : idsSound (blank w g b) ≡ true
-  unfolding idsSound
-  made-ids =
+  made-parts : Parts (blank w g b)
+  unfolding anyBelow
+  made-parts =
       let low : leb 0 b ≡ true = le-leb 0 b (omega arith) in
-      ap₂ _&&_ (all-of 32 _ (λ i l. rw (zeros 32 i, low))) (all-of 8 _ (λ k l. rw (repeated 8 k noWorker, set-of-blank w g b k l, low) (none-within b)))
-
-  made-registers : registersSound (blank w g b) ≡ true
-  unfolding registersSound
-  made-registers = all-of 8 _ (λ k l. rw (repeated 8 k noWorker, some))
+      record {
+        counts = ap₂ _&&_ h some;
+        guards-beyond = all-of 32 (guardsBeyond (blank w g b)) (λ i l. or-right (ltb i g) _ (rw (repeated 32 i false, zeros 32 i)));
+        buffers-beyond = all-of 256 (buffersBeyond (blank w g b)) (λ k l. or-right (ltb k b) _ (rw (zeros 256 (suc k - 1))));
+        workers-beyond = all-of 8 (workersBeyond (blank w g b)) (λ k l. or-right (ltb k w) _ (rw (repeated 8 k noWorker, set-of-blank w g b k l) (none-within 0)));
+        employers = all-of 32 _ (λ i l. rw (zeros 32 i) (le-leb 0 w (omega arith)));
+        states = all-of 256 _ (λ k l. rw (zeros 256 (suc k - 1)));
+        labels = all-of 8 _ (λ k l. rw (repeated 8 k noWorker));
+        guard-ids = all-of 32 _ (λ i l. rw (zeros 32 i, low));
+        worker-ids = all-of 8 _ (λ k l. rw (repeated 8 k noWorker, set-of-blank w g b k l, low) (none-within b));
+        registers = all-of 8 _ (λ k l. rw (repeated 8 k noWorker, some));
+      }
 
   pub made-sound : soundOf (blank w g b) ≡ true
-  unfolding soundOf
-  made-sound = ap₂ _&&_ (ap₂ _&&_ (ap₂ _&&_ (ap₂ _&&_ (ap₂ _&&_ h some) made-beyond) made-kinds) made-ids) made-registers
+  made-sound = whole made-parts
 
 -- ---- what making hands back
 
@@ -99,7 +90,7 @@ unfolding makeOf unless
 unmade w g b h = rw h
 
 zero-not-sound : soundOf (blank 0 0 0) ≡ false
-unfolding soundOf
+unfolding soundOf soundCheck countsCheck unless first
 zero-not-sound = refl
 
 pub made-fresh : MadeFresh

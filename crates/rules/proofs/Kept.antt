@@ -19,22 +19,21 @@ use Rattle.worker.specs.declared.Slot.{Slot}
 use Rattle.worker.specs.declared.Worker.{Worker}
 use Rattle.worker.specs.Registers.{noWorker}
 use Rattle.pool.specs.declared.Pool.{Pool}
-use Rattle.pool.specs.Record.{employerAt, postedAt, slotAt, stateOf, workerAt, setAt, withMaxg, withTaken, withEmployer, withPosted, withSlot, withStates, withState, withWorker, withSet}
-use Rattle.pool.specs.Sound.{inRange, countsSound, guardsBeyond, buffersBeyond, workersBeyond, zeroGuard, zeroWorker, isLabel, guardIds, workerIds, registersIn}
+use Rattle.pool.specs.Record.{postedAt, slotAt, stateOf, workerAt, setAt, withMaxg, withTaken, withEmployer, withPosted, withSlot, withStates, withState, withWorker, withSet}
+use Rattle.pool.specs.Sound.{inRange, countsSound, guardsBeyond, buffersBeyond, workersBeyond, zeroGuard, zeroWorker, employerIn, stateIn, isLabel, labelIn, guardIds, idsIn, workerIds, registersIn, workerRegisters}
 use Rattle.pool.proofs.Parts.{Parts, whole, sizes-of, worker-in}
 use Rattle.pool.proofs.Scans.{fits, entry, states-fit}
 
 -- what is asked of the guards, the buffers and the workers: of those that a change leaves, the same statement after it
 abbrev Guards : Pool → Type 0
-Guards p = (allBelow 32 (guardsBeyond p) ≡ true) × (allBelow 32 (λ i. leb (employerAt p i) (p .w)) ≡ true) × (allBelow 32 (guardIds p) ≡ true)
+Guards p = (allBelow 32 (guardsBeyond p) ≡ true) × (allBelow 32 (employerIn p) ≡ true) × (allBelow 32 (guardIds p) ≡ true)
 
 abbrev Buffers : Pool → Type 0
-Buffers p = (allBelow 256 (λ k. leb (stateOf p (suc k)) 2) ≡ true) × (allBelow 256 (buffersBeyond p) ≡ true)
+Buffers p = (allBelow 256 (stateIn p) ≡ true) × (allBelow 256 (buffersBeyond p) ≡ true)
 
 abbrev Workers : Pool → Type 0
 Workers p =
-    (allBelow 8 (workersBeyond p) ≡ true) × (allBelow 8 (λ k. isLabel (workerAt p k .label)) ≡ true)
-    × (allBelow 8 (λ k. workerIds (p .b) (workerAt p k) (setAt p k)) ≡ true) × (allBelow 8 (λ k. registersIn (p .g) (workerAt p k)) ≡ true)
+    (allBelow 8 (workersBeyond p) ≡ true) × (allBelow 8 (labelIn p) ≡ true) × (allBelow 8 (workerIds p) ≡ true) × (allBelow 8 (workerRegisters p) ≡ true)
 
 made-up : {p : Pool} → countsSound p ≡ true → Guards p → Buffers p → Workers p → Parts p
 made-up c g b w =
@@ -155,13 +154,13 @@ module _ {p : Pool} (s : Parts p) where
   beyond-workers q = all-beyond 8 (p .w) (zeroed p) (zeroed q) (s .workers-beyond)
 
   module _ (k : ℕ) (l : k < p .w) where
-    pub worker-kept : (x : Worker) → isLabel (x .label) ≡ true → workerIds (p .b) x (setAt p k) ≡ true → registersIn (p .g) x ≡ true
+    pub worker-kept : (x : Worker) → isLabel (x .label) ≡ true → idsIn (p .b) x (setAt p k) ≡ true → registersIn (p .g) x ≡ true
         → Parts (withWorker k x p)
     worker-kept x label ids registers =
         made-up (s .counts) guards buffers (
           beyond-workers (withWorker k x p) (λ j b. rw (past l (p .workers) x noWorker j b)),
           all-set 8 (λ j y. isLabel (y .label)) (p .workers) k x noWorker (s .labels) label,
-          all-set 8 (λ j y. workerIds (p .b) y (setAt p j)) (p .workers) k x noWorker (s .worker-ids) ids,
+          all-set 8 (λ j y. idsIn (p .b) y (setAt p j)) (p .workers) k x noWorker (s .worker-ids) ids,
           all-set 8 (λ j y. registersIn (p .g) y) (p .workers) k x noWorker (s .registers) registers,
         )
 
@@ -172,6 +171,6 @@ module _ {p : Pool} (s : Parts p) where
         made-up (s .counts) guards buffers (
           beyond-workers (withSet k t p) (λ j b. rw (past l (p .sets) t none j b)),
           s .labels,
-          all-set 8 (λ j y. workerIds (p .b) (workerAt p j) y) (p .sets) k t none (s .worker-ids) (rw (u .v, u .h, h)),
+          all-set 8 (λ j y. idsIn (p .b) (workerAt p j) y) (p .sets) k t none (s .worker-ids) (rw (u .v, u .h, h)),
           s .registers,
         )

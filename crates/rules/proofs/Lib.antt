@@ -13,15 +13,19 @@ pub mod Shaped
 -- what a call leaves as it was
 pub mod StepsFrame
 pub mod Refused
+-- the first broken rule, what a check passes, and what a call asks besides soundness
+pub mod Broken
+pub mod Passed
+pub mod Rests
 -- runs, and the starred cases
 pub mod Computing
 pub mod SoundRuns
 pub mod Cases
 -- the sentences of the paper
-pub mod Passed
 pub mod BeginSentences
 pub mod AdvanceSentences
 pub mod QuestionSentences
 pub mod Sentences
+pub mod Unsound
 -- a worker's registers advanced alone
 pub mod Lent

@@ -2,20 +2,19 @@
 use mathlib.Core.Path.{_≡_}
 use mathlib.Core.Bool.{true, false}
 use mathlib.Core.List.{List}
-use Prim.Native.Nat.{ℕ, zero, suc, _<_}
-use native.Mathlib.Omega.{arith}
+use Prim.Native.Nat.{ℕ, _<_}
 use lib.Dec.{eqb}
 use lib.ListN.{length, getD}
 use borrow.Author.Tests.{eqb-true}
 use Rattle.basics.specs.Among.{amongFirst, among}
 use Rattle.basics.proofs.Picks.{when-back, unless-back}
-use Rattle.basics.proofs.Truth.{by-order}
 use Rattle.basics.proofs.Any.{among-each}
 use Rattle.pool.specs.declared.Pool.{Pool}
 use Rattle.pool.specs.Answers.{fine, refuse}
 use Rattle.pool.specs.Record.{stateOf}
 use Rattle.pool.specs.Checks.{idCheck, entryCheck, listCheck}
-use Rattle.pool.proofs.Checked.{first-both, never, Buffer, buffer}
+use Rattle.pool.proofs.Firsts.{first-both, never, each-fine}
+use Rattle.pool.proofs.Checked.{Buffer, buffer}
 
 -- entry k names a buffer that is in service, and no earlier entry does
 pub record Listed (p : Pool) (ids : List ℕ) (k : ℕ) : Type 0 where
@@ -34,13 +33,7 @@ module _ (p : Pool) (ids : List ℕ) where
       record { names = buffer p id k (a .0); in-service = eqb-true _ _ (c .0); first-named = b .0 }
 
   pub listed : (n : ℕ) → listCheck p ids n ≡ fine → (k : ℕ) → k < n → Listed p ids k
-  unfolding listCheck
-  listed zero h k l = absurd (omega arith)
-  listed (suc n) h k l =
-      let a = first-both (listCheck p ids n) (entryCheck p ids n) h in
-      by-order n k
-      (λ b. let q : k ≡ n = omega arith in rw q (entry-listed n (a .1)))
-      (λ b. listed n (a .0) k b)
+  listed n h k l = entry-listed k (each-fine (entryCheck p ids) n h k l)
 
   pub listed-buffer : listCheck p ids (length ids) ≡ fine → (id : ℕ) → among ids id ≡ true → Buffer p id
   listed-buffer h = among-each (Buffer p) ids (λ k l. listed (length ids) h k l .names)

@@ -4,7 +4,7 @@ use Prim.Native.Nat.{ℕ}
 use native.Mathlib.Omega.{arith}
 use Rattle.pool.specs.declared.Pool.{Pool}
 use Rattle.pool.specs.Answers.{Check, fine, refuse, first, Told, answering, accepted, refused, afterCheck}
-use Rattle.pool.proofs.Checked.{never}
+use Rattle.pool.proofs.Firsts.{never}
 
 -- two constructors are never equal: of such an equation `cc` makes this one
 pub apart : _≡_ {A = ℕ} 0 1 → ⊥

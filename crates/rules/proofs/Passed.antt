@@ -1,7 +1,7 @@
 -- A check finds nothing exactly where the record and the numbers are as the paper wants them, and what its refusals can be. Assumes nothing.
 use mathlib.Core.Path.{_≡_}
 use mathlib.Core.Bool.{Bool}
-use Prim.Native.Nat.{ℕ, _≤_}
+use Prim.Native.Nat.{ℕ, zero, suc, _≤_, _<_}
 use native.Mathlib.Omega.{arith}
 use borrow.Author.Tests.{le-ltb, lt-leb, eq-eqb, ne-eqb}
 use Rattle.basics.specs.Pick.{when, unless}
@@ -9,69 +9,82 @@ use Rattle.basics.proofs.Picks.{when-both, unless-both}
 use Rattle.pool.specs.declared.Pool.{Pool}
 use Rattle.pool.specs.declared.WorkerNo.{WorkerNo}
 use Rattle.pool.specs.declared.GuardNo.{GuardNo}
-use Rattle.pool.specs.Answers.{Check, fine, refuse, first}
+use Rattle.pool.specs.Answers.{Check, fine, refuse, first, firstBelow}
 use Rattle.pool.specs.Record.{employerAt}
-use Rattle.pool.specs.Checks.{soundCheck, workerCheck, beginCheck, guardCheck, idCheck}
+use Rattle.pool.specs.Sound.{soundCheck}
+use Rattle.pool.specs.Checks.{workerCheck, beginCheck, guardCheck, idCheck}
 use Rattle.pool.specs.Steps.{standCheck}
-use Rattle.pool.proofs.Checked.{Begun, Named, Employed, Buffer}
+use Rattle.pool.proofs.Checked.{sound-passes, Begun, Named, Employed, Buffer}
 use Rattle.rules.specs.Sentences.{HasWorker, At, Idle, Employs, IsBuffer}
 use Rattle.rules.proofs.Outcomes.{fine-apart, same-number}
+use Rattle.rules.proofs.Broken.{rule-low}
 
 -- ---- what the refusals can be
 
--- a check whose refusals have numbers up to m
-abbrev pub UpTo : ℕ → Check → Type 0
-UpTo m c = (n place : ℕ) → c ≡ refuse n place → n ≤ m
+-- a check whose refusals have numbers as P says
+abbrev pub Numbers : (ℕ → Type 0) → Check → Type 0
+Numbers P c = (n place : ℕ) → c ≡ refuse n place → P n
 
-module _ (m : ℕ) where
-  up-fine : UpTo m fine
-  up-fine n place h = absurd (fine-apart h)
+module _ (P : ℕ → Type 0) where
+  pub of-fine : Numbers P fine
+  of-fine n place h = absurd (fine-apart h)
 
-  up-refuse : (r at : ℕ) → r ≤ m → UpTo m (refuse r at)
-  up-refuse r at l n place h = let e = same-number h in omega arith
+  of-refuse : (r at : ℕ) → P r → Numbers P (refuse r at)
+  of-refuse r at f n place h = let e = same-number h in rw (← e) f
 
-  up-first : (a b : Check) → UpTo m a → UpTo m b → UpTo m (first a b)
+  pub of-first : (a b : Check) → Numbers P a → Numbers P b → Numbers P (first a b)
   unfolding first
-  up-first fine b f g = g
-  up-first (refuse r at) b f g = f
+  of-first fine b f g = g
+  of-first (refuse r at) b f g = f
 
-  up-unless : (t : Bool) (r at : ℕ) (b : Check) → r ≤ m → UpTo m b → UpTo m (unless t (refuse r at) b)
-  up-unless t r at b l f = unless-both (UpTo m) t _ b (λ e. up-refuse r at l) (λ e. f)
+  pub of-below : (c : ℕ → Check) → ((k : ℕ) → Numbers P (c k)) → (n : ℕ) → Numbers P (firstBelow n c)
+  unfolding firstBelow
+  of-below c f zero = of-fine
+  of-below c f (suc n) = of-first (firstBelow n c) (c n) (of-below c f n) (f n)
 
-  up-when : (t : Bool) (r at : ℕ) (b : Check) → r ≤ m → UpTo m b → UpTo m (when t (refuse r at) b)
-  up-when t r at b l f = when-both (UpTo m) t _ b (λ e. up-refuse r at l) (λ e. f)
+  pub of-unless : (t : Bool) (r at : ℕ) (b : Check) → P r → Numbers P b → Numbers P (unless t (refuse r at) b)
+  of-unless t r at b l f = unless-both (Numbers P) t _ b (λ e. of-refuse r at l) (λ e. f)
+
+  pub of-when : (t : Bool) (r at : ℕ) (b : Check) → P r → Numbers P b → Numbers P (when t (refuse r at) b)
+  of-when t r at b l f = when-both (Numbers P) t _ b (λ e. of-refuse r at l) (λ e. f)
+
+-- up to m, but for those of soundness, which come first and are numbered from 21 on
+abbrev UpTo : ℕ → ℕ → Type 0
+UpTo m n = m < n → 21 ≤ n
 
 -- the checks of a record, a worker and a guard come before 8, and that of an id before 10
 module _ (p : Pool) where
-  pub sound-up : UpTo 7 (soundCheck p)
-  sound-up = up-unless 7 _ 2 0 _ (omega arith) (up-fine 7)
+  pub sound-up : Numbers (UpTo 7) (soundCheck p)
+  sound-up n place h b = rule-low p h
 
-  worker-up : (w : WorkerNo) → UpTo 7 (workerCheck p w)
+  worker-up : (w : WorkerNo) → Numbers (UpTo 7) (workerCheck p w)
   unfolding workerCheck
-  worker-up w = up-unless 7 _ 2 0 _ (omega arith) (up-when 7 _ 3 0 _ (omega arith) (up-when 7 _ 3 0 _ (omega arith) (up-fine 7)))
+  worker-up w =
+      of-first (UpTo 7) _ _ sound-up
+      (of-when (UpTo 7) _ 3 0 _ (λ b. omega arith) (of-when (UpTo 7) _ 3 0 _ (λ b. omega arith) (of-fine (UpTo 7))))
 
-  pub begin-up : (w : WorkerNo) → UpTo 7 (beginCheck p w)
+  pub begin-up : (w : WorkerNo) → Numbers (UpTo 7) (beginCheck p w)
   unfolding beginCheck
-  begin-up w = up-first 7 _ _ (worker-up w) (up-unless 7 _ 4 0 _ (omega arith) (up-fine 7))
+  begin-up w = of-first (UpTo 7) _ _ (worker-up w) (of-unless (UpTo 7) _ 4 0 _ (λ b. omega arith) (of-fine (UpTo 7)))
 
-  pub stand-up : (w : WorkerNo) → UpTo 7 (standCheck p w)
+  pub stand-up : (w : WorkerNo) → Numbers (UpTo 7) (standCheck p w)
   unfolding standCheck
-  stand-up w = up-first 7 _ _ (worker-up w) (up-when 7 _ 5 0 _ (omega arith) (up-fine 7))
+  stand-up w = of-first (UpTo 7) _ _ (worker-up w) (of-when (UpTo 7) _ 5 0 _ (λ b. omega arith) (of-fine (UpTo 7)))
 
-  pub guard-up : (w : WorkerNo) (g : GuardNo) → UpTo 7 (guardCheck p w g)
+  pub guard-up : (w : WorkerNo) (g : GuardNo) → Numbers (UpTo 7) (guardCheck p w g)
   unfolding guardCheck
-  guard-up w g = up-when 7 _ 6 0 _ (omega arith) (up-unless 7 _ 7 0 _ (omega arith) (up-fine 7))
+  guard-up w g = of-when (UpTo 7) _ 6 0 _ (λ b. omega arith) (of-unless (UpTo 7) _ 7 0 _ (λ b. omega arith) (of-fine (UpTo 7)))
 
-  pub id-up : (id place : ℕ) → UpTo 9 (idCheck p id place)
+  pub id-up : (id place : ℕ) → Numbers (UpTo 9) (idCheck p id place)
   unfolding idCheck
-  id-up id place = up-when 9 _ 9 place _ (omega arith) (up-when 9 _ 9 place _ (omega arith) (up-fine 9))
+  id-up id place = of-when (UpTo 9) _ 9 place _ (λ b. omega arith) (of-when (UpTo 9) _ 9 place _ (λ b. omega arith) (of-fine (UpTo 9)))
 
 -- ---- the checks that find nothing
 
 module _ (p : Pool) where
   pub worker-passes : (w : ℕ) → HasWorker p w → workerCheck p (record { 0 = w }) ≡ fine
-  unfolding workerCheck unless when
-  worker-passes w a = rw (a .sound, le-ltb w 1 (a .some), le-ltb (p .w) w (a .most))
+  unfolding workerCheck first when
+  worker-passes w a = rw (sound-passes p (a .sound), le-ltb w 1 (a .some), le-ltb (p .w) w (a .most))
 
   pub idle-passes : (w : ℕ) → Idle p w → beginCheck p (record { 0 = w }) ≡ fine
   unfolding beginCheck first unless

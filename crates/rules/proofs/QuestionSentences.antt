@@ -1,12 +1,11 @@
 -- The sentences on the questions. Assumes nothing.
 use mathlib.Core.Path.{_≡_, refl, ap, _∙_}
-use mathlib.Core.Bool.{true}
 use Prim.Native.Nat.{ℕ, zero, suc, _+_, _≤_, _<_}
 use native.Mathlib.Decide.{ℕ-discrete}
 use native.Mathlib.Omega.{arith}
 use lib.Dec.{eqb}
 use borrow.Author.Tests.{eq-eqb, ne-eqb, eqb-true, eqb-false}
-use Rattle.basics.specs.Pick.{when, unless}
+use Rattle.basics.specs.Pick.{when}
 use Rattle.basics.specs.Below.{one}
 use Rattle.basics.proofs.Picks.{when-both}
 use Rattle.basics.proofs.Truth.{by-order}
@@ -14,10 +13,9 @@ use Rattle.idset.specs.Members.{sizeOf}
 use Rattle.pool.specs.declared.Pool.{Pool}
 use Rattle.pool.specs.Answers.{Said, Check, fine, refuse, answerAfter, clear, fault, refused}
 use Rattle.pool.specs.Record.{stateOf}
-use Rattle.pool.specs.Sound.{soundOf}
-use Rattle.pool.specs.Checks.{soundCheck}
+use Rattle.pool.specs.Sound.{soundCheck}
 use Rattle.pool.specs.Questions.{placesOf, wantedOf, auditFrom, auditOf, setSizeOf, leavingCountOf}
-use Rattle.pool.proofs.Checked.{sound-of}
+use Rattle.pool.proofs.Checked.{sound-of, sound-passes}
 use Rattle.rules.specs.Sentences.{WellPlaced, QuestionSentences}
 use Rattle.rules.proofs.Outcomes.{apart}
 use Rattle.rules.proofs.Passed.{worker-passes}
@@ -32,10 +30,6 @@ answered (refuse n place) s x none h = absurd (none n place h)
 answers : (c : Check) (s x : Said) → c ≡ fine → s ≡ x → answerAfter c s ≡ x
 unfolding answerAfter
 answers c s x e h = rw e h
-
-sound-passes : (p : Pool) → soundOf p ≡ true → soundCheck p ≡ fine
-unfolding unless
-sound-passes p h = rw h
 
 -- ---- the audit
 

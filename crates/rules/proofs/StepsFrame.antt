@@ -20,7 +20,7 @@ use Rattle.pool.specs.Record.{slotAt, stateOf, workerAt, setAt, withSlot}
 use Rattle.pool.specs.Checks.{workerOf}
 use Rattle.pool.specs.Steps.{puts, ends, line2, line18, line28, freed, lineOf, standCheck, advanceCheck, advanceOf, listAfterCheck, listAfter}
 use Rattle.pool.specs.ForProofs.Ready.{Stands}
-use Rattle.pool.proofs.Checked.{first-both}
+use Rattle.pool.proofs.Firsts.{first-both}
 use Rattle.pool.proofs.Standing.{stands, last-label}
 use Rattle.rules.specs.Calls.{call, listOf}
 use Rattle.rules.specs.Frame.{Frame, AdvanceFrame}

@@ -27,7 +27,7 @@ use Rattle.pool.specs.Steps.{iOf, lastGuard, postedHere, slotHere, unchanged, r
 use Rattle.pool.specs.ForProofs.Ready.{Stands}
 use Rattle.pool.proofs.Parts.{Parts, parts, whole, sizes-of, placeIn, threeAt, triesIn, worker-in}
 use Rattle.rules.proofs.Kept.{guard-in, maxg-kept, taken-kept, employer-kept, posted-kept, slot-kept, some-states-kept, worker-kept, set-kept}
-use Rattle.pool.proofs.Checked.{first-both}
+use Rattle.pool.proofs.Firsts.{first-both}
 use Rattle.rules.proofs.BeginsKept.{after-kept}
 use Rattle.pool.proofs.Standing.{stands, at-guard}
 use Rattle.rules.proofs.EachLine.{by-line}

@@ -10,3 +10,4 @@ pub mod Refused
 pub mod Frame
 -- the sentences of the paper, one by one
 pub mod Sentences
+pub mod Unsound
