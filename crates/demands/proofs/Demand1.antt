@@ -4,7 +4,7 @@ use Rattle.pool.specs.Answers.{Told}
 use Rattle.rules.proofs.Refused.{refused-unchanged}
 use Rattle.demands.specs.Contracts.{NothingAsked}
 use Rattle.demands.specs.Demands.{Demand1}
-use Rattle.demands.proofs.OneToOne.{same-answer, same-outcome}
+use Rattle.demands.proofs.OneToOne.{same-answer, same-outcome, same-verdict}
 use Rattle.demands.proofs.Steps.{stepped, left, answered}
 
 nothing-asked : NothingAsked
@@ -12,7 +12,7 @@ nothing-asked =
     record {
       make = λ w g b. tt;
       blank = λ w g b. tt;
-      sound = λ p. tt;
+      soundness = λ p. tt;
       hire = λ p w. tt;
       fire = λ p w g. tt;
       post = λ p w g b. tt;
@@ -40,7 +40,7 @@ demand-1 =
           (same-outcome r s (x .0 ∙ sym (y .0)), x .1 ∙ sym (y .1));
       one-made = λ w g b r s x y. same-outcome r s (x .1 ∙ sym (y .1));
       one-answer = λ x p a b u v. same-answer a b (answered x p a u ∙ sym (answered x p b v));
-      one-test = λ p s t x y. x .1 ∙ sym (y .1);
+      one-test = λ p u v x y. same-verdict u v (x .1 ∙ sym (y .1));
       one-blank = λ w g b p q x y. x .1 ∙ sym (y .1);
       one-number = λ r m n x y. x .1 ∙ sym (y .1);
     }

@@ -4,4 +4,5 @@ pub mod Steps
 pub mod Demand1
 pub mod Demand2
 pub mod Demand3
+pub mod Request101
 pub mod FromThePage

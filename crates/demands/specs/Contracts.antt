@@ -2,7 +2,6 @@
 -- the proof that the code meets it. Nothing here names a definition that a contract cites: a contract that says less allows more.
 use Prim.Native.Nat.{ℕ}
 use mathlib.Core.Path.{_≡_}
-use mathlib.Core.Bool.{Bool}
 use mathlib.Core.List.{List, []}
 use denote.Ref.{RefT, now}
 use contract.Lifetimes.{Lfts}
@@ -11,11 +10,12 @@ use Rattle.pool.specs.declared.GuardNo.{GuardNo}
 use Rattle.pool.specs.declared.BufferId.{BufferId}
 use Rattle.pool.specs.declared.Pool.{Pool}
 use Rattle.pool.specs.declared.Refusal.{Refusal}
+use Rattle.pool.specs.declared.Verdict.{Verdict}
 use Rattle.pool.specs.declared.Answer.{Answer}
 use Rattle.pool.specs.declared.Outcome.{Outcome}
 use Rattle.pool.proofs.Pool.make.Reads as Make
 use Rattle.pool.proofs.Pool.blank.Reads as Blank
-use Rattle.pool.proofs.Pool.sound.Reads as Sound
+use Rattle.pool.proofs.Pool.soundness.Reads as Soundness
 use Rattle.pool.proofs.Pool.hire.Reads as Hire
 use Rattle.pool.proofs.Pool.fire.Reads as Fire
 use Rattle.pool.proofs.Pool.post.Reads as Post
@@ -88,8 +88,8 @@ pub data Answers (p : Pool) (a : Answer) : Question → Type 0 where
   audit-said : Promised (Audit.Post tt) (p, tt) a → Answers p a audit
 
 -- the test of a record, the record of given counts, and a refusal's number
-abbrev pub Tests : Pool → Bool → Type 0
-Tests p t = Promised (Sound.Post tt) (p, tt) t
+abbrev pub Tests : Pool → Verdict → Type 0
+Tests p v = Promised (Soundness.Post tt) (p, tt) v
 
 abbrev pub Blanks : ℕ → ℕ → ℕ → Pool → Type 0
 Blanks w g b p = Promised (Blank.Post tt) (w, (g, (b, tt))) p
@@ -103,7 +103,7 @@ Numbers r n = Promised (Number.Post tt) (r, tt) n
 pub record NothingAsked : Type 0 where
   pub make : (w g b : ℕ) → Make.Pre tt (w, (g, (b, tt)))
   pub blank : (w g b : ℕ) → Blank.Pre tt (w, (g, (b, tt)))
-  pub sound : (p : Pool) → Sound.Pre tt (p, tt)
+  pub soundness : (p : Pool) → Soundness.Pre tt (p, tt)
   pub hire : (p : Pool) (w : WorkerNo) → Hire.Pre tt (p, (w, tt))
   pub fire : (p : Pool) (w : WorkerNo) (g : GuardNo) → Fire.Pre tt (p, (w, (g, tt)))
   pub post : (p : Pool) (w : WorkerNo) (g : GuardNo) (b : BufferId) → Post.Pre tt (p, (w, (g, (b, tt))))

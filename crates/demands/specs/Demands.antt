@@ -1,17 +1,19 @@
--- What Sorkhabin promises, on one page: the three demands, each a statement about the contracts of the engine's public functions (`Contracts`).
--- The functions of src/lib.rt promise these statements, so a demand that is not shown, or only in part, fails the check of this crate.
+-- What Sorkhabin promises, on one page: the three demands and what later requests add, each a statement about the contracts of the engine's public functions (`Contracts`).
+-- The functions of src/lib.rt promise these statements, so one that is not shown, or only in part, fails the check of this crate.
 use Prim.Native.Nat.{ℕ, _-_, _≤_}
 use mathlib.Core.Path.{_≡_}
-use mathlib.Core.Bool.{Bool, true, false}
+use mathlib.Core.Logic.{_↔_}
+use mathlib.Core.Bool.{true, false}
 use mathlib.Core.List.{List}
 use Rattle.basics.specs.Among.{amongFirst}
 use Rattle.pool.specs.declared.Pool.{Pool}
 use Rattle.pool.specs.declared.Refusal.{Refusal}
+use Rattle.pool.specs.declared.Verdict.{Verdict}
 use Rattle.pool.specs.declared.Answer.{Answer}
 use Rattle.pool.specs.declared.Outcome.{Outcome}
-use Rattle.pool.specs.Answers.{Said, said, told, accepted, back, refused, numberOf}
+use Rattle.pool.specs.Answers.{Said, said, told, accepted, back, refused, numberOf, fine, refuse, verdict}
 use Rattle.pool.specs.Record.{workerAt, blank}
-use Rattle.pool.specs.Sound.{inRange, soundOf}
+use Rattle.pool.specs.Sound.{inRange, soundCheck, soundOf}
 use Rattle.pool.specs.Make.{makeOf, Fresh}
 use Rattle.pool.specs.Questions.{setSizeOf, leavingCountOf, auditOf}
 use Rattle.rules.specs.Calls.{Call, advancing, call, listOf, lentTo, Seen}
@@ -19,6 +21,7 @@ use Rattle.rules.specs.Shaped.{Shaped}
 use Rattle.rules.specs.Frame.{Frame}
 use Rattle.rules.specs.Cases.{Hold, starred}
 use Rattle.rules.specs.Sentences.{Sentences}
+use Rattle.rules.specs.Unsound.{Breaks, Names, UnsoundSentences}
 use Rattle.rules.specs.Lent.{Lent}
 use Rattle.history.specs.History.{historyAfter, fresh}
 use Rattle.history.specs.Runs.{Follows}
@@ -38,7 +41,7 @@ pub record Demand1 : Type 0 where
   pub one-outcome : (c : Call) (p : Pool) (r s : Outcome) (l m : List ℕ) → Allows p r c l → Allows p s c m → (r ≡ s) × (l ≡ m)
   pub one-made : (w g b : ℕ) (r s : Outcome) → Makes w g b r → Makes w g b s → r ≡ s
   pub one-answer : (x : Question) (p : Pool) (a b : Answer) → Answers p a x → Answers p b x → a ≡ b
-  pub one-test : (p : Pool) (s t : Bool) → Tests p s → Tests p t → s ≡ t
+  pub one-test : (p : Pool) (u v : Verdict) → Tests p u → Tests p v → u ≡ v
   pub one-blank : (w g b : ℕ) (p q : Pool) → Blanks w g b p → Blanks w g b q → p ≡ q
   pub one-number : (r : Refusal) (m n : ℕ) → Numbers r m → Numbers r n → m ≡ n
 
@@ -54,7 +57,7 @@ pub record Demand2 : Type 0 where
   pub step : (c : Call) (p : Pool) (r : Outcome) (list : List ℕ) → Allows p r c list → (told r ≡ call c p) × (list ≡ listOf c p)
   pub making : (w g b : ℕ) (r : Outcome) → Makes w g b r → told r ≡ makeOf w g b
   pub answer : (x : Question) (p : Pool) (a : Answer) → Answers p a x → said a ≡ questionOf x p
-  pub test : (p : Pool) (t : Bool) → Tests p t → t ≡ soundOf p
+  pub test : (p : Pool) (v : Verdict) → Tests p v → verdict v ≡ soundCheck p
   pub counts-alone : (w g b : ℕ) (p : Pool) → Blanks w g b p → p ≡ blank w g b
   pub number : (r : Refusal) (n : ℕ) → Numbers r n → n ≡ numberOf r
   -- a pool that is made is fresh and sound; out of range none is made, and the record handed back is all zero and not sound
@@ -88,3 +91,15 @@ pub record Demand3 : Type 0 where
   pub held : HeldAndKept
   pub held-by-another : HeldByAnother
   pub kept-back : KeptBack
+
+-- ---- request 101: an unsound record is refused by the first rule that it breaks, and by the place
+
+pub record Request101 : Type 0 where
+  -- the public test finds that rule and place, and nothing exactly where the record is sound
+  pub found : (p : Pool) (v : Verdict) → Tests p v → (n place : ℕ) → (verdict v ≡ refuse n place) ↔ Breaks p n place
+  pub nothing-found : (p : Pool) (v : Verdict) → Tests p v → (verdict v ≡ fine) ↔ (soundOf p ≡ true)
+  -- every call and every question passes it on, and says 21 or more for nothing else
+  pub calls : (c : Call) (p : Pool) (r : Outcome) (list : List ℕ) → Allows p r c list → Names p (said (r .answer))
+  pub questions : (x : Question) (p : Pool) (a : Answer) → Answers p a x → Names p (said a)
+  -- any record at all is sound or breaks one rule first, at one place
+  pub sentences : UnsoundSentences
