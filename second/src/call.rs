@@ -13,6 +13,7 @@ pub enum Call {
     Size { k: u32 },
     Leaving,
     Audit,
+    Sound,
 }
 
 #[derive(Clone, Copy, Debug, PartialEq, Eq)]
@@ -33,8 +34,8 @@ pub enum Answer {
 }
 
 /// The words of the calls on a record, that is all but make.
-pub const WORDS: [&str; 10] = [
-    "hire", "fire", "post", "give", "take", "ask", "advance", "size", "leaving", "audit",
+pub const WORDS: [&str; 11] = [
+    "hire", "fire", "post", "give", "take", "ask", "advance", "size", "leaving", "audit", "sound",
 ];
 
 impl Call {
@@ -51,6 +52,7 @@ impl Call {
             Call::Size { .. } => "size",
             Call::Leaving => "leaving",
             Call::Audit => "audit",
+            Call::Sound => "sound",
         }
     }
 
@@ -62,7 +64,7 @@ impl Call {
             Call::Post { k, g, id } => vec![k, g, id],
             Call::Take { id } => vec![id],
             Call::Ask { k, id } => vec![k, id],
-            Call::Leaving | Call::Audit => vec![],
+            Call::Leaving | Call::Audit | Call::Sound => vec![],
         }
     }
 
@@ -79,6 +81,7 @@ impl Call {
             ("size", &[k]) => Call::Size { k },
             ("leaving", &[]) => Call::Leaving,
             ("audit", &[]) => Call::Audit,
+            ("sound", &[]) => Call::Sound,
             _ => return None,
         };
         Some(call)

@@ -97,6 +97,7 @@ fn accepted(record: &mut Record, list: &mut [u32], call: &Call) -> (Answer, &'st
         }
         Call::Leaving => counted(record.in_state(LEAVING).len() as u32),
         Call::Audit => audit(record),
+        Call::Sound => (Answer::Clear, "clear"),
     }
 }
 

@@ -1,11 +1,12 @@
 //! The cells of the coverage table.
 
 use crate::call::WORDS;
-use crate::cases::KINDS;
+use crate::cases::{ANY_RECORD, KINDS};
 use crate::edges;
+use crate::order;
 use crate::sound::{NOT_12_OR_32, NO_LABELS, RULES};
 
-const ACCEPTED: [&str; 18] = [
+const ACCEPTED: [&str; 19] = [
     "make: accepted",
     "hire: accepted",
     "fire: accepted",
@@ -21,6 +22,7 @@ const ACCEPTED: [&str; 18] = [
     "size: some",
     "leaving: none",
     "leaving: some",
+    "sound: clear",
     "give: list longer than B",
     "label 32: list as long as the set",
     "label 32: list longer than the set",
@@ -147,34 +149,27 @@ const PLACES: [(u32, &[&str]); 3] = [
     (11, &["0", "1", "2", "3 to 7", "8 or more"]),
 ];
 
-/// Two refusals at once, the one that is answered first.
-const BEFORE: [(&str, &[(u32, u32)]); 8] = [
-    ("hire", &[(2, 3), (2, 4)]),
+/// The other refusals that apply to an unsound record.
+const UNSOUND_BEFORE: [(&str, &[u32]); 8] = [
+    ("hire", &[3, 4]),
+    ("fire", &[3, 4, 6, 7, 8]),
+    ("post", &[3, 4, 6, 7, 9]),
+    ("give", &[3, 4, 9, 10, 11]),
+    ("take", &[9, 11]),
+    ("ask", &[3, 4, 9]),
+    ("advance", &[3, 5, 12, 13, 14]),
+    ("size", &[3]),
+];
+
+/// Two refusals at once on a sound record, the one that is answered first.
+const BEFORE: [(&str, &[(u32, u32)]); 5] = [
     (
         "fire",
-        &[
-            (2, 3),
-            (2, 4),
-            (2, 6),
-            (2, 7),
-            (2, 8),
-            (3, 6),
-            (3, 7),
-            (3, 8),
-            (4, 6),
-            (4, 7),
-            (4, 8),
-            (7, 8),
-        ],
+        &[(3, 6), (3, 7), (3, 8), (4, 6), (4, 7), (4, 8), (7, 8)],
     ),
     (
         "post",
         &[
-            (2, 3),
-            (2, 4),
-            (2, 6),
-            (2, 7),
-            (2, 9),
             (3, 6),
             (3, 7),
             (3, 9),
@@ -188,11 +183,6 @@ const BEFORE: [(&str, &[(u32, u32)]); 8] = [
     (
         "give",
         &[
-            (2, 3),
-            (2, 4),
-            (2, 9),
-            (2, 10),
-            (2, 11),
             (3, 9),
             (3, 10),
             (3, 11),
@@ -207,13 +197,8 @@ const BEFORE: [(&str, &[(u32, u32)]); 8] = [
             (11, 10),
         ],
     ),
-    ("take", &[(2, 9), (2, 11)]),
-    ("ask", &[(2, 3), (2, 4), (2, 9), (3, 9), (4, 9)]),
-    (
-        "advance",
-        &[(2, 3), (2, 5), (2, 12), (2, 13), (2, 14), (14, 13)],
-    ),
-    ("size", &[(2, 3)]),
+    ("ask", &[(3, 9), (4, 9)]),
+    ("advance", &[(14, 13)]),
 ];
 
 pub const LAST: [&str; 3] = [
@@ -238,7 +223,9 @@ pub fn all() -> Vec<String> {
         all.extend(attempts.map(|n| format!("schedules, label {label}: attempts {n}")));
     }
     all.extend(AUDIT.iter().map(|name| format!("audit: {name}")));
-    all.extend(WORDS.iter().map(|word| format!("{word}: refused 2")));
+    for word in WORDS {
+        all.extend((21..=25).map(|rule| format!("{word}: refused {rule}")));
+    }
     for (word, refusals) in REFUSED {
         all.extend(refusals.iter().map(|r| format!("{word}: refused {r}")));
     }
@@ -249,9 +236,16 @@ pub fn all() -> Vec<String> {
                 .map(|p| format!("give: {number} at place {p}")),
         );
     }
+    for (word, others) in UNSOUND_BEFORE {
+        all.extend(others.iter().map(|n| format!("{word}: unsound before {n}")));
+    }
     for (word, pairs) in BEFORE {
         all.extend(pairs.iter().map(|(a, b)| format!("{word}: {a} before {b}")));
     }
+    for kind in ANY_RECORD {
+        all.extend((21..=25).map(|rule| format!("{}: refused {rule}", kind.name())));
+    }
+    all.extend(order::cells());
     all.extend(RULES.iter().map(|(_, name)| format!("unsound: {name}")));
     all.extend(NO_LABELS.iter().map(|n| format!("unsound: label {n}")));
     let labels = NOT_12_OR_32.iter();

@@ -2,11 +2,12 @@
 
 use crate::call::{Answer, Call};
 use crate::calls::Outcome;
-use crate::cases::Kind;
+use crate::cases::{Kind, ANY_RECORD};
 use crate::cells::{self, LAST, MADE};
 use crate::edges;
+use crate::order;
 use crate::record::{Record, IDLE};
-use crate::sound::{self, Rule, NOT_12_OR_32, NO_LABELS, RULES};
+use crate::sound::{self, Fault, Rule, NOT_12_OR_32, NO_LABELS, RULES};
 use std::collections::BTreeMap;
 use std::fmt::Write;
 
@@ -36,7 +37,7 @@ impl Cover {
     ) {
         self.hit(format!("kind: {}", kind.name()));
         if let Answer::Refused(..) = outcome.answer {
-            self.refused(call, outcome);
+            self.refused(kind, call, outcome);
         } else {
             self.accepted(kind, before, list, call, outcome);
         }
@@ -47,17 +48,20 @@ impl Cover {
             return;
         }
         self.last_ones(before, call, outcome);
-        // A rule counts as tested when it alone is broken.
-        if let [alone] = sound::broken(before)[..] {
+        let faults = sound::faults(before);
+        if faults.is_empty() && kind == Kind::Unreached {
+            for name in edges::of(before) {
+                self.hit(format!("edge: {name}"));
+            }
+        }
+        for name in order::of(before, &faults) {
+            self.hit(name);
+        }
+        if let Some(alone) = only_rule(&faults) {
             if let Some((_, name)) = RULES.iter().find(|(rule, _)| *rule == alone) {
                 self.hit(format!("unsound: {name}"));
             }
             self.damaged_label(before, alone);
-        }
-        if let (Kind::Unreached, false) = (kind, outcome.answer == Answer::Refused(2, 0)) {
-            for name in edges::of(before) {
-                self.hit(format!("edge: {name}"));
-            }
         }
     }
 
@@ -86,9 +90,13 @@ impl Cover {
         }
     }
 
-    fn refused(&mut self, call: &Call, outcome: &Outcome) {
+    fn refused(&mut self, kind: Kind, call: &Call, outcome: &Outcome) {
         let word = call.word();
         let first = &outcome.refusals[0];
+        let unsound = (21..=25).contains(&first.number);
+        if unsound && ANY_RECORD.contains(&kind) {
+            self.hit(format!("{}: refused {}", kind.name(), first.number));
+        }
         let why = match (first.number, outcome.refusals.len()) {
             (1, 2..) => "several at once",
             _ => first.why,
@@ -108,10 +116,12 @@ impl Cover {
         let mut others: Vec<u32> = outcome.refusals.iter().map(|r| r.number).collect();
         others.sort_unstable();
         others.dedup();
+        others.retain(|&other| other != first.number);
         for other in others {
-            if other != first.number {
-                self.hit(format!("{word}: {} before {other}", first.number));
-            }
+            self.hit(match unsound {
+                true => format!("{word}: unsound before {other}"),
+                false => format!("{word}: {} before {other}", first.number),
+            });
         }
     }
 
@@ -189,6 +199,13 @@ impl Cover {
         }
         out
     }
+}
+
+/// The rule that is broken, if it is one alone. So a rule counts as tested.
+fn only_rule(faults: &[Fault]) -> Option<Rule> {
+    let rule = faults.first()?.rule;
+    let alone = faults.iter().all(|fault| fault.rule == rule);
+    alone.then_some(rule)
 }
 
 #[cfg(test)]

@@ -7,6 +7,7 @@ mod cells;
 mod chance;
 mod cover;
 mod edges;
+mod order;
 mod record;
 mod refusals;
 mod sound;
@@ -16,6 +17,8 @@ mod text;
 
 #[cfg(test)]
 mod paper;
+#[cfg(test)]
+mod unsound;
 
 use stage::{Go, Stage, Stop, Way};
 use std::io::{self, BufRead, BufReader, BufWriter, Write};

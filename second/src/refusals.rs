@@ -33,9 +33,12 @@ pub fn all(record: &Record, list: &[u32], call: &Call) -> Vec<Refusal> {
         sizes(&mut found, w, g, b);
         return found.0;
     }
-    found.when(!sound::broken(record).is_empty(), 2, "");
+    if let Some(fault) = sound::first(record) {
+        let (number, _, place) = fault.order();
+        found.at(number, place, "");
+    }
     match *call {
-        Call::Make { .. } | Call::Leaving | Call::Audit => {}
+        Call::Make { .. } | Call::Leaving | Call::Audit | Call::Sound => {}
         Call::Hire { k } => idle_worker(&mut found, record, k),
         Call::Fire { k, g } => {
             idle_worker(&mut found, record, k);

@@ -1,6 +1,15 @@
-//! Soundness: which of its rules a record breaks.
+//! Soundness: which of its rules a record breaks, and where. Every fault is collected; the least in the paper's order is the one that is named.
 
 use crate::record::{Guard, Record, Slot, Worker, BUFFERS, GUARDS, IDLE, LABELS, LEAVING, WORKERS};
+
+/// What a rule is asked of, in the order of the asking.
+#[derive(Clone, Copy, Debug, PartialEq, Eq, PartialOrd, Ord)]
+pub enum Part {
+    Pool,
+    Guard,
+    Buffer,
+    Worker,
+}
 
 #[derive(Clone, Copy, Debug, PartialEq, Eq)]
 pub enum Rule {
@@ -85,6 +94,66 @@ pub const RULES: [(Rule, &str); 38] = [
     (Rule::AttemptsAt25, "attempts 3 at 25"),
 ];
 
+/// The refusal that a rule gives, and what it is asked of.
+pub type Asked = (u32, Part);
+
+impl Rule {
+    pub fn asked(self) -> Asked {
+        match self {
+            Rule::WLow
+            | Rule::WHigh
+            | Rule::GLow
+            | Rule::GHigh
+            | Rule::BLow
+            | Rule::BHigh
+            | Rule::Maxg => (21, Part::Pool),
+            Rule::BeyondTaken
+            | Rule::BeyondEmployer
+            | Rule::BeyondPosted
+            | Rule::BeyondSlotId
+            | Rule::BeyondSlotVersion => (22, Part::Guard),
+            Rule::BeyondState => (22, Part::Buffer),
+            Rule::BeyondLabel
+            | Rule::BeyondSet
+            | Rule::BeyondI
+            | Rule::BeyondV
+            | Rule::BeyondHId
+            | Rule::BeyondHVersion
+            | Rule::BeyondAttempts
+            | Rule::BeyondMax => (22, Part::Worker),
+            Rule::Employer => (23, Part::Guard),
+            Rule::State => (23, Part::Buffer),
+            Rule::Label => (23, Part::Worker),
+            Rule::Posted | Rule::SlotId => (24, Part::Guard),
+            Rule::V | Rule::HId | Rule::Member => (24, Part::Worker),
+            Rule::I
+            | Rule::IAt12
+            | Rule::IAt32
+            | Rule::Max
+            | Rule::Attempts
+            | Rule::AttemptsAt15
+            | Rule::AttemptsAt18
+            | Rule::AttemptsAt22
+            | Rule::AttemptsAt25 => (25, Part::Worker),
+        }
+    }
+}
+
+/// One rule broken at one place: a guard's number, a buffer's id, a worker's number, or 0 for the pool.
+#[derive(Clone, Copy, Debug, PartialEq, Eq)]
+pub struct Fault {
+    pub rule: Rule,
+    pub place: u32,
+}
+
+impl Fault {
+    /// Of two faults the one with the lesser of these is named.
+    pub fn order(&self) -> (u32, Part, u32) {
+        let (refusal, part) = self.rule.asked();
+        (refusal, part, self.place)
+    }
+}
+
 /// The labels at which i is less than G, idle among them.
 pub const NOT_12_OR_32: [u32; 16] = [0, 2, 4, 5, 6, 7, 8, 9, 10, 13, 15, 18, 22, 25, 28, 31];
 
@@ -95,99 +164,131 @@ pub fn is_label(label: u32) -> bool {
     label == IDLE || LABELS.contains(&label)
 }
 
-/// The rules that the record breaks, each once. With W, G or B out of range the other rules say nothing, so they are left alone.
-pub fn broken(record: &Record) -> Vec<Rule> {
-    let mut rules = Vec::new();
-    counts(record, &mut rules);
-    if !rules.is_empty() {
-        return rules;
+/// The fault that is named, if the record isn't sound.
+pub fn first(record: &Record) -> Option<Fault> {
+    faults(record).into_iter().min_by_key(Fault::order)
+}
+
+/// Every fault of the record. With W, G or B out of range no entry is within or beyond the counts, and the other rules say nothing.
+pub fn faults(record: &Record) -> Vec<Fault> {
+    let mut faults = Vec::new();
+    note(&mut faults, 0, counts(record));
+    if !faults.is_empty() {
+        return faults;
     }
-    note(&mut rules, record.maxg >= record.g, Rule::Maxg);
-    for n in 0..GUARDS {
-        let guard = &record.guards[n];
-        if n < record.g as usize {
-            inner_guard(record, guard, &mut rules);
-        } else if *guard != Guard::default() {
-            outer_guard(guard, &mut rules);
+    let maxg = (record.maxg >= record.g, Rule::Maxg);
+    note(&mut faults, 0, those(&[maxg]));
+    let entries = [
+        (Part::Guard, 0, record.g, GUARDS),
+        (Part::Buffer, 1, record.b, BUFFERS),
+        (Part::Worker, 1, record.w, WORKERS),
+    ];
+    for (part, lowest, count, all) in entries {
+        for n in 0..all as u32 {
+            let place = lowest + n;
+            let rules = if n < count {
+                within(record, part, place)
+            } else {
+                beyond(record, part, place)
+            };
+            note(&mut faults, place, rules);
         }
     }
-    for n in 0..WORKERS {
-        let worker = &record.workers[n];
-        if n < record.w as usize {
-            inner_worker(record, worker, &mut rules);
-        } else if *worker != Worker::default() {
-            outer_worker(worker, &mut rules);
-        }
+    faults
+}
+
+fn note(faults: &mut Vec<Fault>, place: u32, rules: Vec<Rule>) {
+    faults.extend(rules.into_iter().map(|rule| Fault { rule, place }));
+}
+
+fn those(broken: &[(bool, Rule)]) -> Vec<Rule> {
+    let broken = broken.iter().filter(|(is_broken, _)| *is_broken);
+    broken.map(|(_, rule)| *rule).collect()
+}
+
+fn counts(record: &Record) -> Vec<Rule> {
+    those(&[
+        (record.w < 1, Rule::WLow),
+        (record.w > 8, Rule::WHigh),
+        (record.g < 1, Rule::GLow),
+        (record.g > 32, Rule::GHigh),
+        (record.b < 1, Rule::BLow),
+        (record.b > 256, Rule::BHigh),
+    ])
+}
+
+/// The rules for entries within the counts that this entry breaks, wherever it stands.
+pub fn within(record: &Record, part: Part, place: u32) -> Vec<Rule> {
+    match part {
+        Part::Pool => Vec::new(),
+        Part::Guard => inner_guard(record, &record.guards[place as usize]),
+        Part::Buffer => those(&[(record.states[place as usize - 1] > LEAVING, Rule::State)]),
+        Part::Worker => inner_worker(record, &record.workers[place as usize - 1]),
     }
-    for n in 0..BUFFERS {
-        let state = record.states[n];
-        if n < record.b as usize {
-            note(&mut rules, state > LEAVING, Rule::State);
-        } else {
-            note(&mut rules, state != 0, Rule::BeyondState);
-        }
-    }
-    rules
 }
 
-fn note(rules: &mut Vec<Rule>, is_broken: bool, rule: Rule) {
-    if is_broken && !rules.contains(&rule) {
-        rules.push(rule);
+/// The rules for entries beyond the counts that this entry breaks.
+fn beyond(record: &Record, part: Part, place: u32) -> Vec<Rule> {
+    match part {
+        Part::Pool => Vec::new(),
+        Part::Guard => outer_guard(&record.guards[place as usize]),
+        Part::Buffer => those(&[(record.states[place as usize - 1] != 0, Rule::BeyondState)]),
+        Part::Worker => outer_worker(&record.workers[place as usize - 1]),
     }
 }
 
-fn counts(record: &Record, rules: &mut Vec<Rule>) {
-    note(rules, record.w < 1, Rule::WLow);
-    note(rules, record.w > 8, Rule::WHigh);
-    note(rules, record.g < 1, Rule::GLow);
-    note(rules, record.g > 32, Rule::GHigh);
-    note(rules, record.b < 1, Rule::BLow);
-    note(rules, record.b > 256, Rule::BHigh);
+fn inner_guard(record: &Record, guard: &Guard) -> Vec<Rule> {
+    those(&[
+        (guard.employer > record.w, Rule::Employer),
+        (guard.posted > record.b, Rule::Posted),
+        (guard.slot.id > record.b, Rule::SlotId),
+    ])
 }
 
-fn inner_guard(record: &Record, guard: &Guard, rules: &mut Vec<Rule>) {
-    note(rules, guard.employer > record.w, Rule::Employer);
-    note(rules, guard.posted > record.b, Rule::Posted);
-    note(rules, guard.slot.id > record.b, Rule::SlotId);
+fn outer_guard(guard: &Guard) -> Vec<Rule> {
+    those(&[
+        (guard.taken, Rule::BeyondTaken),
+        (guard.employer != 0, Rule::BeyondEmployer),
+        (guard.posted != 0, Rule::BeyondPosted),
+        (guard.slot.id != 0, Rule::BeyondSlotId),
+        (guard.slot.version != 0, Rule::BeyondSlotVersion),
+    ])
 }
 
-fn outer_guard(guard: &Guard, rules: &mut Vec<Rule>) {
-    note(rules, guard.taken, Rule::BeyondTaken);
-    note(rules, guard.employer != 0, Rule::BeyondEmployer);
-    note(rules, guard.posted != 0, Rule::BeyondPosted);
-    note(rules, guard.slot.id != 0, Rule::BeyondSlotId);
-    note(rules, guard.slot.version != 0, Rule::BeyondSlotVersion);
-}
-
-fn inner_worker(record: &Record, worker: &Worker, rules: &mut Vec<Rule>) {
-    let label = worker.label;
-    note(rules, !is_label(label), Rule::Label);
-    note(rules, worker.v > record.b, Rule::V);
-    note(rules, worker.h.id > record.b, Rule::HId);
+fn inner_worker(record: &Record, worker: &Worker) -> Vec<Rule> {
+    let (i, label) = (worker.i, worker.label);
     let bad_member = worker.set.iter().any(|&id| id < 1 || id > record.b);
-    note(rules, bad_member, Rule::Member);
-    match label {
-        12 => note(rules, worker.i > record.g, Rule::IAt12),
-        32 => note(rules, worker.i > record.g, Rule::IAt32),
-        _ => note(rules, worker.i >= record.g, Rule::I),
-    }
-    note(rules, worker.max >= record.g, Rule::Max);
-    note(rules, worker.attempts > 3, Rule::Attempts);
+    let bad_i = match label {
+        12 => (i > record.g, Rule::IAt12),
+        32 => (i > record.g, Rule::IAt32),
+        _ => (i >= record.g, Rule::I),
+    };
     let three = worker.attempts == 3;
-    note(rules, three && label == 15, Rule::AttemptsAt15);
-    note(rules, three && label == 18, Rule::AttemptsAt18);
-    note(rules, three && label == 22, Rule::AttemptsAt22);
-    note(rules, three && label == 25, Rule::AttemptsAt25);
+    those(&[
+        (!is_label(label), Rule::Label),
+        (worker.v > record.b, Rule::V),
+        (worker.h.id > record.b, Rule::HId),
+        (bad_member, Rule::Member),
+        bad_i,
+        (worker.max >= record.g, Rule::Max),
+        (worker.attempts > 3, Rule::Attempts),
+        (three && label == 15, Rule::AttemptsAt15),
+        (three && label == 18, Rule::AttemptsAt18),
+        (three && label == 22, Rule::AttemptsAt22),
+        (three && label == 25, Rule::AttemptsAt25),
+    ])
 }
 
-fn outer_worker(worker: &Worker, rules: &mut Vec<Rule>) {
+fn outer_worker(worker: &Worker) -> Vec<Rule> {
     let Slot { id, version } = worker.h;
-    note(rules, worker.label != 0, Rule::BeyondLabel);
-    note(rules, !worker.set.is_empty(), Rule::BeyondSet);
-    note(rules, worker.i != 0, Rule::BeyondI);
-    note(rules, worker.v != 0, Rule::BeyondV);
-    note(rules, id != 0, Rule::BeyondHId);
-    note(rules, version != 0, Rule::BeyondHVersion);
-    note(rules, worker.attempts != 0, Rule::BeyondAttempts);
-    note(rules, worker.max != 0, Rule::BeyondMax);
+    those(&[
+        (worker.label != IDLE, Rule::BeyondLabel),
+        (!worker.set.is_empty(), Rule::BeyondSet),
+        (worker.i != 0, Rule::BeyondI),
+        (worker.v != 0, Rule::BeyondV),
+        (id != 0, Rule::BeyondHId),
+        (version != 0, Rule::BeyondHVersion),
+        (worker.attempts != 0, Rule::BeyondAttempts),
+        (worker.max != 0, Rule::BeyondMax),
+    ])
 }

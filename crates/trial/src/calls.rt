@@ -1,9 +1,11 @@
 // The lines that make a call.
 use crate::words::Word;
+use pool::Answer;
 use pool::BufferId;
 use pool::GuardNo;
 use pool::Outcome;
 use pool::Pool;
+use pool::Verdict;
 use pool::WorkerNo;
 
 // More numbers than any line has: what `arity` says of a word that is no call.
@@ -23,7 +25,16 @@ pub fn arity(word: Word) -> usize {
         Word::Size => 1,
         Word::Leaving => 0,
         Word::Audit => 0,
+        Word::Sound => 0,
         _ => NO_CALL,
+    }
+}
+
+// What the soundness test found, as an answer.
+fn sound_answer(found: Verdict) -> Answer {
+    match found {
+        Verdict::Fine => Answer::Clear,
+        Verdict::Fault(rule, place) => Answer::Refused(rule, place),
     }
 }
 
@@ -46,8 +57,12 @@ pub fn make_call(pool: Pool, word: Word, a: u32, b: u32, c: u32, list: &mut [u32
             answer: pool.leaving_count(),
             pool: pool,
         },
-        _ => Outcome {
+        Word::Audit => Outcome {
             answer: pool.audit(),
+            pool: pool,
+        },
+        _ => Outcome {
+            answer: sound_answer(pool.soundness()),
             pool: pool,
         },
     }

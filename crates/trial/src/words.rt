@@ -21,6 +21,7 @@ pub enum Word {
     Size,
     Leaving,
     Audit,
+    Sound,
     Unknown,
 }
 
@@ -110,6 +111,9 @@ pub fn word_of(name: &[u8]) -> Word {
     }
     if same(name, b"audit") {
         return Word::Audit;
+    }
+    if same(name, b"sound") {
+        return Word::Sound;
     }
     begin_word(name)
 }

@@ -68,6 +68,7 @@ pub fn call(chance: &mut Chance, record: &mut Record, word: &str, f: Faults) -> 
             k: worker(chance, record, here, f),
         },
         "leaving" => Call::Leaving,
+        "sound" => Call::Sound,
         _ => {
             if chance.percent(80) {
                 clear(record);

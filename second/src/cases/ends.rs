@@ -112,7 +112,7 @@ fn id(chance: &mut Chance, b: u32) -> u32 {
 fn at_the_ends(stage: &mut Stage, chance: &mut Chance) -> Go {
     let (w, g, b) = (stage.record.w, stage.record.g, stage.record.b);
     let k = worker(chance, w.min(8));
-    let call = match chance.below(15) {
+    let call = match chance.below(16) {
         0 => Call::Hire { k },
         1 | 2 => Call::Fire {
             k,
@@ -136,6 +136,7 @@ fn at_the_ends(stage: &mut Stage, chance: &mut Chance) -> Go {
         10 | 11 => Call::Advance { k },
         12 => Call::Size { k },
         13 => Call::Leaving,
+        14 => Call::Sound,
         _ => Call::Audit,
     };
     stage.call(call)?;

@@ -2,12 +2,21 @@
 
 mod arrange;
 mod build;
+mod damage;
 mod damaged;
 mod ends;
+mod garbage;
 mod lengths;
+mod limits;
 mod schedules;
+mod several;
 mod unreached;
 mod versions;
+
+#[cfg(test)]
+pub use {
+    garbage::call as any_call, garbage::record as any_record, limits::record as at_the_limits,
+};
 
 use crate::chance::Chance;
 use crate::stage::{Go, Stage, Stop};
@@ -17,19 +26,28 @@ pub enum Kind {
     Schedules,
     Unreached,
     Damaged,
+    Several,
+    Limits,
+    Garbage,
     Lengths,
     Ends,
     Versions,
 }
 
-pub const KINDS: [Kind; 6] = [
+pub const KINDS: [Kind; 9] = [
     Kind::Schedules,
     Kind::Unreached,
     Kind::Damaged,
+    Kind::Several,
+    Kind::Limits,
+    Kind::Garbage,
     Kind::Lengths,
     Kind::Ends,
     Kind::Versions,
 ];
+
+/// The kinds whose records keep to nothing but the types of their fields.
+pub const ANY_RECORD: [Kind; 2] = [Kind::Limits, Kind::Garbage];
 
 impl Kind {
     pub fn name(self) -> &'static str {
@@ -37,6 +55,9 @@ impl Kind {
             Kind::Schedules => "schedules",
             Kind::Unreached => "sound records out of reach",
             Kind::Damaged => "records with one field damaged",
+            Kind::Several => "records with two faults",
+            Kind::Limits => "fields at the limits of their types",
+            Kind::Garbage => "garbage",
             Kind::Lengths => "lengths of lists",
             Kind::Ends => "ends of the sizes",
             Kind::Versions => "versions at the limit",
@@ -44,33 +65,37 @@ impl Kind {
     }
 }
 
-const ROUND: [Kind; 22] = [
+const ROUND: [Kind; 26] = [
     Kind::Unreached,
     Kind::Damaged,
     Kind::Ends,
     Kind::Unreached,
+    Kind::Several,
     Kind::Lengths,
     Kind::Damaged,
     Kind::Unreached,
     Kind::Versions,
     Kind::Unreached,
     Kind::Damaged,
+    Kind::Several,
     Kind::Unreached,
     Kind::Damaged,
     Kind::Lengths,
     Kind::Unreached,
     Kind::Damaged,
+    Kind::Garbage,
     Kind::Unreached,
     Kind::Ends,
     Kind::Unreached,
     Kind::Lengths,
     Kind::Damaged,
+    Kind::Several,
     Kind::Lengths,
     Kind::Unreached,
 ];
 
-/// Rounds of short cases from one schedule to the next.
-const ROUNDS: u64 = 10;
+/// Rounds of short cases from one schedule to the next. A record at the limits has a long text and is as rare.
+const ROUNDS: u64 = 9;
 
 pub fn play(seed: u64, stage: &mut Stage) -> Go {
     if stage.is_over() {
@@ -83,33 +108,48 @@ pub fn play(seed: u64, stage: &mut Stage) -> Go {
 }
 
 fn endless(seed: u64, stage: &mut Stage) -> Go {
-    let mut number = 0;
-    let mut damaged = 0;
-    let mut schedules = 0;
+    let mut cases = Cases {
+        seed,
+        number: 0,
+        of_kind: [0; KINDS.len()],
+    };
     for round in 0.. {
         for kind in ROUND {
-            let mut chance = Chance::of_case(seed, number);
-            number += 1;
-            stage.open(kind);
-            match kind {
-                Kind::Schedules => {}
-                Kind::Unreached => unreached::run(stage, &mut chance)?,
-                Kind::Damaged => {
-                    damaged::run(stage, &mut chance, damaged)?;
-                    damaged += 1;
-                }
-                Kind::Lengths => lengths::run(stage, &mut chance)?,
-                Kind::Ends => ends::run(stage, &mut chance)?,
-                Kind::Versions => versions::run(stage, &mut chance)?,
-            }
+            cases.next(stage, kind)?;
         }
         if round % ROUNDS == 0 {
-            let mut chance = Chance::of_case(seed, number);
-            number += 1;
-            stage.open(Kind::Schedules);
-            schedules::run(stage, &mut chance, schedules)?;
-            schedules += 1;
+            cases.next(stage, Kind::Limits)?;
+            cases.next(stage, Kind::Schedules)?;
         }
     }
     Ok(())
+}
+
+/// How many cases there were, and how many of each kind.
+struct Cases {
+    seed: u64,
+    number: u64,
+    of_kind: [usize; KINDS.len()],
+}
+
+impl Cases {
+    fn next(&mut self, stage: &mut Stage, kind: Kind) -> Go {
+        let mut chance = Chance::of_case(self.seed, self.number);
+        let chance = &mut chance;
+        let number = self.of_kind[kind as usize];
+        self.number += 1;
+        self.of_kind[kind as usize] += 1;
+        stage.open(kind);
+        match kind {
+            Kind::Schedules => schedules::run(stage, chance, number),
+            Kind::Unreached => unreached::run(stage, chance),
+            Kind::Damaged => damaged::run(stage, chance, number),
+            Kind::Several => several::run(stage, chance, number),
+            Kind::Limits => limits::run(stage, chance, number),
+            Kind::Garbage => garbage::run(stage, chance),
+            Kind::Lengths => lengths::run(stage, chance),
+            Kind::Ends => ends::run(stage, chance),
+            Kind::Versions => versions::run(stage, chance),
+        }
+    }
 }

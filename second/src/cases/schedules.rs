@@ -18,7 +18,7 @@ struct Plan {
 
 const PATIENCE: u32 = 90;
 
-pub fn run(stage: &mut Stage, chance: &mut Chance, number: u32) -> Go {
+pub fn run(stage: &mut Stage, chance: &mut Chance, number: usize) -> Go {
     stage.lend(vec![])?;
     let large = number % 14 == 13;
     let (w, g, b) = if large {
@@ -248,10 +248,11 @@ fn advance(stage: &mut Stage, chance: &mut Chance, k: u32, worker: &Worker) -> G
 fn question(stage: &mut Stage, chance: &mut Chance) -> Go {
     let k = chance.between(1, stage.record.w);
     let id = chance.between(1, stage.record.b);
-    let call = match chance.below(5) {
+    let call = match chance.below(6) {
         0 => Call::Size { k },
         1 => Call::Leaving,
         2 => Call::Ask { k, id },
+        3 => Call::Sound,
         _ => Call::Audit,
     };
     stage.call(call)?;

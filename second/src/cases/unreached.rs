@@ -6,9 +6,9 @@ use crate::chance::Chance;
 use crate::stage::{Go, Stage};
 
 /// The calls other than an advance, those with more refusals more often.
-const OTHERS: [&str; 12] = [
+const OTHERS: [&str; 13] = [
     "hire", "fire", "fire", "post", "post", "give", "take", "ask", "size", "leaving", "audit",
-    "audit",
+    "audit", "sound",
 ];
 
 pub fn run(stage: &mut Stage, chance: &mut Chance) -> Go {
@@ -34,12 +34,13 @@ fn largest(stage: &mut Stage, chance: &mut Chance) -> Go {
     let short = chance.percent(30);
     let list = if short { vec![1] } else { vec![7; 256] };
     let k = chance.between(1, 8);
-    let call = match chance.below(8) {
+    let call = match chance.below(9) {
         0 => Call::Audit,
         1 => Call::Leaving,
         2 => Call::Size { k },
         3 => Call::Take { id: 256 },
         4 => Call::Advance { k },
+        5 => Call::Sound,
         _ => Call::Advance { k: 8 },
     };
     stage.lend(list)?;
