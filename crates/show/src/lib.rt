@@ -1,4 +1,7 @@
 // Answers in words on standard output, for the programs that people read.
+pub mod refusal;
+mod unsound;
+
 use libc::STDOUT_FILENO;
 use pool::Answer;
 
@@ -9,6 +12,11 @@ pub fn print(text: &[u8]) {
 pub fn print_number(before: &[u8], n: u32) {
     io::write_all(STDOUT_FILENO, before);
     io::print_decimal(STDOUT_FILENO, n as u64);
+}
+
+pub fn print_place(before: &[u8], place: usize) {
+    io::write_all(STDOUT_FILENO, before);
+    io::print_decimal(STDOUT_FILENO, place as u64);
 }
 
 // The ids at the start of a list, each after a space.
@@ -37,7 +45,7 @@ pub fn print_answer(answer: Answer) {
         }
         Answer::Refused(refusal, place) => {
             print_number(b"refused ", refusal.number());
-            print_number(b" at place ", (place % 4294967296) as u32);
+            print_place(b" at place ", place);
         }
     }
 }
