@@ -6,6 +6,16 @@ static struct answer says(enum said said, uint32_t number) { return (struct answ
 
 static struct answer refuses(enum refusal number, size_t place) { return (struct answer){REFUSED, number, place}; }
 
+// What is wrong with a record or a call: a refusal's number, or 0 for nothing, and the place.
+struct fault {
+    uint32_t number;
+    size_t place;
+};
+
+static struct fault fault(uint32_t number, size_t place) { return (struct fault){number, place}; }
+
+static struct fault fault_if(bool wrong, uint32_t number) { return fault(wrong ? number : 0, 0); }
+
 // ---- sets
 
 static bool set_has(const struct id_set *s, uint32_t id) { return id != 0 && (s->words[(id - 1) / 64] >> ((id - 1) % 64) & 1); }
@@ -71,13 +81,19 @@ static uint64_t shared(const struct id_set *s, const struct id_set *t) {
 // Bit l is set exactly for a label l.
 static const uint64_t labels = 0x19244b7f5;
 
-static bool worker_fits(const struct worker *x, uint32_t g, uint32_t b) {
+static bool is_label(uint32_t l) { return (l < 64) & (labels >> (l % 64) & 1); }
+
+static bool registers_fit(const struct worker *x, uint32_t g) {
     uint32_t l = x->label;
-    bool known = (l < 64) & (labels >> (l % 64) & 1);
     bool at_end = ((l == 12) | (l == 32)) & (x->i == g);
     bool trying = (l == 15) | (l == 18) | (l == 22) | (l == 25);
     uint32_t most = trying ? 2 : 3;
-    return known & (x->v <= b) & (x->h.id <= b) & ((x->i < g) | at_end) & (x->max < g) & (x->attempts <= most);
+    return ((x->i < g) | at_end) & (x->max < g) & (x->attempts <= most);
+}
+
+static bool worker_fits(const struct worker *x, uint32_t g, uint32_t b) {
+    bool known = is_label(x->label), registers = registers_fit(x, g);
+    return known & (x->v <= b) & (x->h.id <= b) & registers;
 }
 
 static bool idle(const struct worker *x) { return (x->label | x->i | x->v | x->h.id | x->h.version | x->attempts | x->max) == 0; }
@@ -100,9 +116,14 @@ static bool workers_fit(const struct pool *p) {
     return ok;
 }
 
+static bool counts_fit(const struct pool *p) {
+    uint32_t w = p->w, g = p->g, b = p->b;
+    return (1 <= w) & (w <= WORKERS) & (1 <= g) & (g <= GUARDS) & (1 <= b) & (b <= BUFFERS) & (p->maxg < g);
+}
+
 static bool sound(const struct pool *p) {
     uint32_t w = p->w, g = p->g, b = p->b;
-    bool ok = (1 <= w) & (w <= WORKERS) & (1 <= g) & (g <= GUARDS) & (1 <= b) & (b <= BUFFERS) & (p->maxg < g);
+    bool ok = counts_fit(p);
     ok &= fit(p->employer, w);
     ok &= fit(p->posted, b);
     ok &= fit(p->slot_id, b);
@@ -116,22 +137,79 @@ static bool sound(const struct pool *p) {
     return ok;
 }
 
-// ---- what is wrong with a call; 0 is nothing
+// ---- the first broken rule: only a record that is not sound is searched, entry by entry up to the first that fails
 
-static uint32_t worker_fault(const struct pool *p, uint32_t worker) {
-    if (!sound(p)) return NOT_SOUND;
-    return worker < 1 || p->w < worker ? NO_SUCH_WORKER : 0;
+static bool guard_keeps(const struct pool *p, enum refusal rule, size_t i) {
+    switch (rule) {
+    case ENTRY_BEYOND_COUNTS: return i < p->g || !(p->taken[i] | p->employer[i] | p->posted[i] | p->slot_id[i] | p->slot_version[i]);
+    case KIND_UNKNOWN: return p->employer[i] <= p->w;
+    default: return p->posted[i] <= p->b && p->slot_id[i] <= p->b;
+    }
 }
 
-static uint32_t begin_fault(const struct pool *p, uint32_t worker) {
-    uint32_t fault = worker_fault(p, worker);
-    if (fault) return fault;
-    return p->workers[worker - 1].label ? WORKER_NOT_IDLE : 0;
+static bool buffer_keeps(const struct pool *p, enum refusal rule, size_t k) {
+    return rule == ENTRY_BEYOND_COUNTS ? k < p->b || p->states[k] == FREE : p->states[k] <= LEAVING;
 }
 
-static uint32_t guard_fault(const struct pool *p, uint32_t worker, uint32_t guard) {
-    if (p->g <= guard) return NO_SUCH_GUARD;
-    return p->employer[guard] == worker ? 0 : GUARD_NOT_EMPLOYED;
+static bool worker_keeps(const struct pool *p, enum refusal rule, size_t k) {
+    const struct worker *x = &p->workers[k];
+    const struct id_set *s = &p->sets[k];
+    const struct id_set beyond = above(p->b);
+    switch (rule) {
+    case ENTRY_BEYOND_COUNTS: return k < p->w || (idle(x) && shared(s, s) == 0);
+    case KIND_UNKNOWN: return is_label(x->label);
+    case ID_OUT_OF_RANGE: return x->v <= p->b && x->h.id <= p->b && shared(s, &beyond) == 0;
+    default: return registers_fit(x, p->g);
+    }
+}
+
+static struct fault guard_that_breaks(const struct pool *p, enum refusal rule) {
+    for (size_t i = 0; i < GUARDS; i++)
+        if (!guard_keeps(p, rule, i)) return fault(rule, i);
+    return fault(0, 0);
+}
+
+static struct fault buffer_that_breaks(const struct pool *p, enum refusal rule) {
+    for (size_t k = 0; k < BUFFERS; k++)
+        if (!buffer_keeps(p, rule, k)) return fault(rule, k + 1);
+    return fault(0, 0);
+}
+
+static struct fault worker_that_breaks(const struct pool *p, enum refusal rule) {
+    for (size_t k = 0; k < WORKERS; k++)
+        if (!worker_keeps(p, rule, k)) return fault(rule, k + 1);
+    return fault(0, 0);
+}
+
+static struct fault broken_rule(const struct pool *p) {
+    struct fault found = fault_if(!counts_fit(p), COUNTS_OUT_OF_RANGE);
+    for (enum refusal rule = ENTRY_BEYOND_COUNTS; !found.number && rule <= REGISTER_OUT_OF_RANGE; rule++) {
+        if (rule < REGISTER_OUT_OF_RANGE) found = guard_that_breaks(p, rule);
+        if (!found.number && rule < ID_OUT_OF_RANGE) found = buffer_that_breaks(p, rule);
+        if (!found.number) found = worker_that_breaks(p, rule);
+    }
+    return found;
+}
+
+static struct fault soundness_fault(const struct pool *p) { return sound(p) ? fault(0, 0) : broken_rule(p); }
+
+// ---- what is wrong with a call
+
+static struct fault worker_fault(const struct pool *p, uint32_t worker) {
+    struct fault found = soundness_fault(p);
+    if (found.number) return found;
+    return fault_if(worker < 1 || p->w < worker, NO_SUCH_WORKER);
+}
+
+static struct fault begin_fault(const struct pool *p, uint32_t worker) {
+    struct fault found = worker_fault(p, worker);
+    if (found.number) return found;
+    return fault_if(p->workers[worker - 1].label != 0, WORKER_NOT_IDLE);
+}
+
+static struct fault guard_fault(const struct pool *p, uint32_t worker, uint32_t guard) {
+    if (p->g <= guard) return fault(NO_SUCH_GUARD, 0);
+    return fault_if(p->employer[guard] != worker, GUARD_NOT_EMPLOYED);
 }
 
 // ---- begins
@@ -146,8 +224,8 @@ struct answer pool_make(struct pool *p, uint32_t w, uint32_t g, uint32_t b) {
 }
 
 struct answer pool_hire(struct pool *p, uint32_t worker) {
-    uint32_t fault = begin_fault(p, worker);
-    if (fault) return refuses(fault, 0);
+    struct fault found = begin_fault(p, worker);
+    if (found.number) return refuses(found.number, found.place);
     struct worker *me = &p->workers[worker - 1];
     me->i = 0;
     me->label = 2;
@@ -155,10 +233,10 @@ struct answer pool_hire(struct pool *p, uint32_t worker) {
 }
 
 struct answer pool_fire(struct pool *p, uint32_t worker, uint32_t guard) {
-    uint32_t fault = begin_fault(p, worker);
-    if (!fault) fault = guard_fault(p, worker, guard);
-    if (!fault && p->posted[guard]) fault = GUARD_POSTED;
-    if (fault) return refuses(fault, 0);
+    struct fault found = begin_fault(p, worker);
+    if (!found.number) found = guard_fault(p, worker, guard);
+    if (!found.number) found = fault_if(p->posted[guard] != 0, GUARD_POSTED);
+    if (found.number) return refuses(found.number, found.place);
     struct worker *me = &p->workers[worker - 1];
     me->i = guard;
     p->employer[guard] = 0;
@@ -167,10 +245,10 @@ struct answer pool_fire(struct pool *p, uint32_t worker, uint32_t guard) {
 }
 
 struct answer pool_post(struct pool *p, uint32_t worker, uint32_t guard, uint32_t buffer) {
-    uint32_t fault = begin_fault(p, worker);
-    if (!fault) fault = guard_fault(p, worker, guard);
-    if (!fault && p->b < buffer) fault = NO_SUCH_BUFFER;
-    if (fault) return refuses(fault, 0);
+    struct fault found = begin_fault(p, worker);
+    if (!found.number) found = guard_fault(p, worker, guard);
+    if (!found.number) found = fault_if(p->b < buffer, NO_SUCH_BUFFER);
+    if (found.number) return refuses(found.number, found.place);
     struct worker *me = &p->workers[worker - 1];
     me->i = guard;
     me->v = buffer;
@@ -179,7 +257,8 @@ struct answer pool_post(struct pool *p, uint32_t worker, uint32_t guard, uint32_
 }
 
 struct answer pool_take(struct pool *p, uint32_t buffer) {
-    if (!sound(p)) return refuses(NOT_SOUND, 0);
+    struct fault found = soundness_fault(p);
+    if (found.number) return refuses(found.number, found.place);
     if (buffer < 1 || p->b < buffer) return refuses(NO_SUCH_BUFFER, 0);
     if (p->states[buffer - 1] != FREE) return refuses(BUFFER_IN_WRONG_STATE, 0);
     p->states[buffer - 1] = IN_SERVICE;
@@ -193,8 +272,8 @@ static bool repeated(const uint32_t *ids, size_t k) {
 }
 
 struct answer pool_give_up(struct pool *p, uint32_t worker, const uint32_t *ids, size_t count) {
-    uint32_t fault = begin_fault(p, worker);
-    if (fault) return refuses(fault, 0);
+    struct fault found = begin_fault(p, worker);
+    if (found.number) return refuses(found.number, found.place);
     for (size_t k = 0; k < count; k++) {
         if (ids[k] < 1 || p->b < ids[k]) return refuses(NO_SUCH_BUFFER, k);
         if (repeated(ids, k)) return refuses(BUFFER_REPEATED, k);
@@ -243,8 +322,8 @@ static struct answer hand_back(struct pool *p, struct worker *me, struct id_set 
 }
 
 struct answer pool_advance(struct pool *p, uint32_t worker, uint32_t *list, size_t length) {
-    uint32_t fault = worker_fault(p, worker);
-    if (fault) return refuses(fault, 0);
+    struct fault found = worker_fault(p, worker);
+    if (found.number) return refuses(found.number, found.place);
     struct worker *me = &p->workers[worker - 1];
     struct id_set *set = &p->sets[worker - 1];
     uint32_t i = me->i;

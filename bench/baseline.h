@@ -38,8 +38,7 @@ enum said { ACCEPTED, AT, HIRED, NONE_FOUND, FIRED, POSTED, BACK, REFUSED };
 // The paper's refusal numbers.
 enum refusal {
     SIZES_OUT_OF_RANGE = 1,
-    NOT_SOUND,
-    NO_SUCH_WORKER,
+    NO_SUCH_WORKER = 3,
     WORKER_NOT_IDLE,
     WORKER_IDLE,
     NO_SUCH_GUARD,
@@ -50,10 +49,15 @@ enum refusal {
     BUFFER_IN_WRONG_STATE,
     VERSIONS_USED_UP,
     LIST_TOO_SHORT,
-    MEMBER_NOT_LEAVING
+    MEMBER_NOT_LEAVING,
+    COUNTS_OUT_OF_RANGE = 21,
+    ENTRY_BEYOND_COUNTS,
+    KIND_UNKNOWN,
+    ID_OUT_OF_RANGE,
+    REGISTER_OUT_OF_RANGE
 };
 
-// `number` is a label, a guard, a count or a refusal; `place` an index into a give-up list.
+// `number` is a label, a guard, a count or a refusal; `place` an index into a give-up list, or the guard, buffer or worker that breaks a rule.
 struct answer {
     enum said said;
     uint32_t number;

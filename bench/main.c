@@ -93,7 +93,8 @@ int main(void) {
         {"take 16, give them up, 7 advances", 16 + 8, TWO(give_up), .a = 16},
         {"take 200, give them up, 7 advances", 200 + 8, TWO(give_up), .a = 200},
         {"contention, 8 workers; 97 calls in 100 are advances", 709, ONE(contention)},
-        {"refused hire, the damage in the last worker", 1, ONE(refused)},
+        {"refused hire, 21: MAXG is G or more", 1, TWO(refused), .a = 21},
+        {"refused hire, 25: the damage in the last worker", 1, TWO(refused), .a = 25},
     };
     const struct row guards[] = {
         {"G = 1", 5 * 1 + 3, THREE(scan), .a = 1, .b = 256},

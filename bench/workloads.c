@@ -127,12 +127,13 @@ uint64_t baseline_hand_back(uint64_t times, size_t count) {
     return with_list(with_record(sum, &p), list, BUFFERS);
 }
 
-uint64_t baseline_refused(uint64_t times) {
+uint64_t baseline_refused(uint64_t times, size_t rule) {
     struct pool p;
     make_staffed(&p, 32, 256);
+    uint32_t *past_the_guards = rule == COUNTS_OUT_OF_RANGE ? &p.maxg : &p.workers[7].max;
     uint64_t sum = 0;
     for (uint64_t k = 0; k < times; k++) {
-        p.workers[7].max = 32 + (uint32_t)(k % 2);
+        *past_the_guards = 32 + (uint32_t)(k % 2);
         sum = with_answer(sum, pool_hire(&p, 1));
     }
     return with_record(sum, &p);

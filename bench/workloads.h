@@ -9,7 +9,7 @@ uint64_t engine_give_up(uint64_t times, size_t count);
 uint64_t engine_hand_back(uint64_t times, size_t count);
 uint64_t engine_scan(uint64_t times, uint32_t g, uint32_t b);
 uint64_t engine_contention(uint64_t times);
-uint64_t engine_refused(uint64_t times);
+uint64_t engine_refused(uint64_t times, size_t rule);
 uint64_t engine_handed(uint64_t times);
 
 uint64_t baseline_hire_fire(uint64_t times);
@@ -18,5 +18,5 @@ uint64_t baseline_give_up(uint64_t times, size_t count);
 uint64_t baseline_hand_back(uint64_t times, size_t count);
 uint64_t baseline_scan(uint64_t times, uint32_t g, uint32_t b);
 uint64_t baseline_contention(uint64_t times);
-uint64_t baseline_refused(uint64_t times);
+uint64_t baseline_refused(uint64_t times, size_t rule);
 uint64_t baseline_handed(uint64_t times);

@@ -5,10 +5,10 @@ use Rattle.bench.proofs.refused.engine_refused.Statement.{statement}
 use Rattle.bench.proofs.refused.engine_refused.Tie as tie
 
 abbrev Inv-loop : tie.InvT-loop
-Inv-loop times p₀ sum₀ k₀ p sum k = Unit {0}
+Inv-loop times rule p₀ sum₀ k₀ p sum k = Unit {0}
 
 abbrev μ-loop : tie.MeasureT-loop
-μ-loop times p₀ sum₀ k₀ p sum k = times - k
+μ-loop times rule p₀ sum₀ k₀ p sum k = times - k
 
 staffed-requires : tie.Need-staffed-requires Inv-loop μ-loop
 staffed-requires c κs = search needs
@@ -16,14 +16,14 @@ staffed-requires c κs = search needs
 loop-holds : tie.Need-loop-holds Inv-loop μ-loop
 loop-holds c = search needs
 
+cast-past : tie.Need-cast-past Inv-loop μ-loop
+cast-past c = search needs
+
+add-past : tie.Need-add-past Inv-loop μ-loop
+add-past c = search needs
+
 element-copy-out-last : tie.Need-element-copy-out-last Inv-loop μ-loop
 element-copy-out-last c = search needs
-
-cast-last : tie.Need-cast-last Inv-loop μ-loop
-cast-last c = search needs
-
-add-last : tie.Need-add-last Inv-loop μ-loop
-add-last c = search needs
 
 element-set-from-last : tie.Need-element-set-from-last Inv-loop μ-loop
 element-set-from-last c = search needs
@@ -57,9 +57,9 @@ engine-refused-spec =
     μ-loop
     staffed-requires
     loop-holds
+    cast-past
+    add-past
     element-copy-out-last
-    cast-last
-    add-last
     element-set-from-last
     hire-requires
     with-answer-requires
