@@ -41,8 +41,7 @@ pub struct Pool {
 
 pub enum Refusal {
     SizesOutOfRange,
-    // The rules of soundness, in the paper's order: W, G, B or MAXG; an entry beyond the counts; an employer, a state or a label that is none; an id;
-    // a register.
+    // The rules of soundness, in the paper's order: W, G, B and MAXG; entries beyond the counts; employers, states and labels; ids; registers.
     CountsOutOfRange,
     EntryBeyondCounts,
     KindUnknown,
