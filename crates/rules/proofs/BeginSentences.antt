@@ -43,7 +43,7 @@ module _ (p : Pool) (w g : ℕ) where
   unfolding fireCheck
   fire-found e =
       let a = first-second (beginCheck p _) _ 8 0 (λ q. omega (arith, begin-up p _ 8 0 q (omega arith))) e in
-      let b = first-second (guardCheck p _ _) _ 8 0 (λ q. omega (arith, guard-up p _ _ 8 0 q (omega arith))) (a .1) in
+      let b = first-second (guardCheck p _ _) _ 8 0 (λ q. omega (arith, guard-up p _ _ 8 0 q)) (a .1) in
       (idle-worker (begun p _ (a .0)), employs (employed p _ _ (b .0)), unless-failed _ 8 0 8 0 (b .1))
 
   post-passes : (b : ℕ) → Idle p w → Employs p w g → b ≤ p .b → postCheck p (record { 0 = w }) (record { 0 = g }) (record { 0 = b }) ≡ fine
@@ -83,7 +83,7 @@ module _ (p : Pool) (b : ℕ) where
   unfolding takeCheck
   take-found e =
       let a = first-second (soundCheck p) _ 11 0 (λ q. omega (arith, sound-up p 11 0 q (omega arith))) e in
-      let c = first-second (idCheck p b 0) _ 11 0 (λ q. omega (arith, id-up p b 0 11 0 q (omega arith))) (a .1) in
+      let c = first-second (idCheck p b 0) _ 11 0 (λ q. omega (arith, id-up p b 0 11 0 q)) (a .1) in
       (sound-of p (a .0), is-buffer (buffer p b 0 (c .0)), unless-failed _ 11 0 11 0 (c .1))
 
   ask-passes : (w : ℕ) → Idle p w → IsBuffer p b → askCheck p (record { 0 = w }) (record { 0 = b }) ≡ fine

@@ -48,6 +48,9 @@ module _ (P : ℕ → Type 0) where
   pub of-when : (t : Bool) (r at : ℕ) (b : Check) → P r → Numbers P b → Numbers P (when t (refuse r at) b)
   of-when t r at b l f = when-both (Numbers P) t _ b (λ e. of-refuse r at l) (λ e. f)
 
+abbrev AtMost : ℕ → ℕ → Type 0
+AtMost m n = n ≤ m
+
 -- up to m, but for those of soundness, which come first and are numbered from 21 on
 abbrev UpTo : ℕ → ℕ → Type 0
 UpTo m n = m < n → 21 ≤ n
@@ -71,13 +74,13 @@ module _ (p : Pool) where
   unfolding standCheck
   stand-up w = of-first (UpTo 7) _ _ (worker-up w) (of-when (UpTo 7) _ 5 0 _ (λ b. omega arith) (of-fine (UpTo 7)))
 
-  pub guard-up : (w : WorkerNo) (g : GuardNo) → Numbers (UpTo 7) (guardCheck p w g)
+  pub guard-up : (w : WorkerNo) (g : GuardNo) → Numbers (AtMost 7) (guardCheck p w g)
   unfolding guardCheck
-  guard-up w g = of-when (UpTo 7) _ 6 0 _ (λ b. omega arith) (of-unless (UpTo 7) _ 7 0 _ (λ b. omega arith) (of-fine (UpTo 7)))
+  guard-up w g = of-when (AtMost 7) _ 6 0 _ (omega arith) (of-unless (AtMost 7) _ 7 0 _ (omega arith) (of-fine (AtMost 7)))
 
-  pub id-up : (id place : ℕ) → Numbers (UpTo 9) (idCheck p id place)
+  pub id-up : (id place : ℕ) → Numbers (AtMost 9) (idCheck p id place)
   unfolding idCheck
-  id-up id place = of-when (UpTo 9) _ 9 place _ (λ b. omega arith) (of-when (UpTo 9) _ 9 place _ (λ b. omega arith) (of-fine (UpTo 9)))
+  id-up id place = of-when (AtMost 9) _ 9 place _ (omega arith) (of-when (AtMost 9) _ 9 place _ (omega arith) (of-fine (AtMost 9)))
 
 -- ---- the checks that find nothing
 

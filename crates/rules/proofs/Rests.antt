@@ -17,7 +17,7 @@ use Rattle.pool.specs.Checks.{workerOf, workerCheck, beginCheck, guardCheck, id
 use Rattle.pool.specs.Begins.{hiring as hired, firing as fired, posting as posted, givingUp, hireOf, fireOf, postOf, giveUpOf, takeOf, askOf}
 use Rattle.pool.specs.Steps.{lineOf, handCheck, lineCheck, standCheck, advanceCheck, advanceOf}
 use Rattle.rules.specs.Calls.{Call, hiring, firing, posting, giving-up, taking, asking, advancing, call}
-use Rattle.rules.proofs.Passed.{Numbers, of-fine, of-first, of-below, of-unless, of-when}
+use Rattle.rules.proofs.Passed.{Numbers, of-fine, of-first, of-below, of-unless, of-when, guard-up, id-up}
 
 -- ---- what a call refuses on a sound record, and what it does where it refuses nothing
 
@@ -78,12 +78,10 @@ module _ (p : Pool) where
   idle-low w = of-first Low _ _ (named-low w) (of-unless Low _ 4 0 _ (omega arith) (of-fine Low))
 
   guard-low : (w : WorkerNo) (g : GuardNo) → Numbers Low (guardCheck p w g)
-  unfolding guardCheck
-  guard-low w g = of-when Low _ 6 0 _ (omega arith) (of-unless Low _ 7 0 _ (omega arith) (of-fine Low))
+  guard-low w g n place h = let l = guard-up p w g n place h in omega arith
 
   id-low : (id place : ℕ) → Numbers Low (idCheck p id place)
-  unfolding idCheck
-  id-low id place = of-when Low _ 9 place _ (omega arith) (of-when Low _ 9 place _ (omega arith) (of-fine Low))
+  id-low id at n place h = let l = id-up p id at n place h in omega arith
 
   entry-low : (ids : List ℕ) (k : ℕ) → Numbers Low (entryCheck p ids k)
   unfolding entryCheck
