@@ -1,0 +1,5 @@
+pub mod Arms
+pub mod Laws
+pub mod Spans
+pub mod Said
+pub mod Lawful

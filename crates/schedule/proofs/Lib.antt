@@ -1,0 +1,10 @@
+pub mod Falls
+pub mod Arms
+pub mod Seek
+pub mod Counts
+pub mod Blocks
+pub mod Turns
+pub mod Puts
+pub mod Whole
+pub mod Called
+pub mod Examples
