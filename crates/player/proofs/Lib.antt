@@ -1,0 +1,5 @@
+pub mod Judged
+pub mod Turned
+pub mod ReadBack
+pub mod Whole
+pub mod Example
