@@ -5,4 +5,5 @@ pub mod Demand1
 pub mod Demand2
 pub mod Demand3
 pub mod Request101
+pub mod Request102
 pub mod FromThePage

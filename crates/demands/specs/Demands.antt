@@ -4,7 +4,7 @@ use Prim.Native.Nat.{ℕ, _-_, _≤_}
 use mathlib.Core.Path.{_≡_}
 use mathlib.Core.Logic.{_↔_}
 use mathlib.Core.Bool.{true, false}
-use mathlib.Core.List.{List}
+use mathlib.Core.List.{List, [], _++_}
 use Rattle.basics.specs.Among.{amongFirst}
 use Rattle.pool.specs.declared.Pool.{Pool}
 use Rattle.pool.specs.declared.Refusal.{Refusal}
@@ -16,7 +16,7 @@ use Rattle.pool.specs.Record.{workerAt, blank}
 use Rattle.pool.specs.Sound.{inRange, soundCheck, soundOf}
 use Rattle.pool.specs.Make.{makeOf, Fresh}
 use Rattle.pool.specs.Questions.{setSizeOf, leavingCountOf, auditOf}
-use Rattle.rules.specs.Calls.{Call, advancing, call, listOf, lentTo, Seen}
+use Rattle.rules.specs.Calls.{Call, advancing, call, listOf, lentTo, after, Seen, seen}
 use Rattle.rules.specs.Shaped.{Shaped}
 use Rattle.rules.specs.Frame.{Frame}
 use Rattle.rules.specs.Cases.{Hold, starred}
@@ -26,6 +26,16 @@ use Rattle.rules.specs.Lent.{Lent}
 use Rattle.history.specs.History.{historyAfter, fresh}
 use Rattle.history.specs.Runs.{Follows}
 use Rattle.history.specs.Examples.{HeldAndKept, HeldByAnother, KeptBack}
+use Rattle.tables.specs.Bytes.{bytes}
+use Rattle.grammar.specs.declared.Line.the-variants.{Make}
+use Rattle.grammar.specs.Line.{lineOf}
+use Rattle.grammar.specs.declared.numbers.Number.the-variants.{Value}
+use Rattle.grammar.specs.Words.{numberOf as readNumber}
+use Rattle.printed.specs.Printed.{decimal, lineFor}
+use Rattle.schedule.specs.Read.{calls, readOf}
+use Rattle.schedule.specs.Examples.{Examples}
+use Rattle.player.specs.Transcript.{unrolled, printedFrom, transcript}
+use Rattle.demands.specs.Schedules.{Prints, NothingAskedToPlay}
 use Rattle.demands.specs.Contracts.{worker, Allows, Makes, Question, set-size, leaving-count, audit, Answers, Tests, Blanks, Numbers, NothingAsked}
 use Rattle.demands.specs.Runs.{Ran, FromMaking, IsRun}
 
@@ -103,3 +113,25 @@ pub record Request101 : Type 0 where
   pub questions : (x : Question) (p : Pool) (a : Answer) → Answers p a x → Names p (said a)
   -- any record at all is sound or breaks one rule first, at one place
   pub sentences : UnsoundSentences
+
+-- ---- request 102: a schedule prints its transcript, and that is a run of the engine
+
+pub record Request102 : Type 0 where
+  -- no public function of the reader and the player has a `requires`
+  pub nothing-asked : NothingAskedToPlay
+  -- whatever the bytes, a program that reads, loops and writes prints the transcript, and nothing else
+  pub printed : (s bytes : List ℕ) → Prints s bytes → bytes ≡ transcript s
+  -- a text is too long, at fault at a line, or played: then its line 1 makes the pool, and each answer is that of the unrolled text, call by call on the engine
+  pub run : (s places : List ℕ) → readOf s ≡ calls places
+      → (w : ℕ) × (g : ℕ) × (b : ℕ) × (lineOf s 0 ≡ Make w g b)
+      × (transcript s ≡ lineFor 1 (makeOf w g b .answer) [] ++ printedFrom 2 (seen (unrolled s places) (makeOf w g b .pool)))
+  -- demand 3 at any moment of any schedule whose pool is made: each buffer is in exactly one place, its state follows from the answers, what was given up is
+  -- accounted for, and no step hands back a buffer that is held
+  pub follows : (s places : List ℕ) (w g b : ℕ) → readOf s ≡ calls places → lineOf s 0 ≡ Make w g b → inRange w g b ≡ true
+      → (now later : List Call) → unrolled s places ≡ now ++ later → Follows w g b (after now (blank w g b)) (historyAfter fresh (seen now (blank w g b)))
+  -- a number is printed so that it is read as that number
+  pub read-back : (n : ℕ) → n ≤ 4294967295 → readNumber (decimal n) ≡ Value n
+  -- the request's own example
+  pub example : transcript (bytes "make 1 1 1\nhire 1\nrepeat 3\nstep 1\nend\n") ≡ bytes "1 ok\n2 ok\n3 at 4\n4 at 6\n5 guard 0\n"
+  -- more texts, and what they are read as
+  pub texts : Examples
