@@ -8,12 +8,14 @@ mod chance;
 mod cover;
 mod edges;
 mod order;
+mod play;
 mod record;
 mod refusals;
 mod sound;
 mod stage;
 mod steps;
 mod text;
+mod texts;
 
 #[cfg(test)]
 mod paper;
@@ -21,7 +23,7 @@ mod paper;
 mod unsound;
 
 use stage::{Go, Stage, Stop, Way};
-use std::io::{self, BufRead, BufReader, BufWriter, Write};
+use std::io::{self, BufRead, BufReader, BufWriter, Read, Write};
 use std::process::ExitCode;
 
 const USAGE: &str = "usage: second cases SEED CALLS     writes the lines of the cases
@@ -29,6 +31,11 @@ const USAGE: &str = "usage: second cases SEED CALLS     writes the lines of the 
        second check SEED CALLS     compares the results on standard input
        second table SEED CALLS     writes the coverage table
        second answer               writes the results of the lines on standard input
+       second play                 plays the schedule on standard input
+       second texts SEED COUNT DIR     writes texts of schedules and their transcripts
+       second texts-table SEED COUNT   writes the coverage table of those texts
+       second texts-stored DIR         writes the texts that the repository keeps
+       second texts-long DIR           writes those that it would keep if their transcripts were shorter
 ";
 
 fn main() -> ExitCode {
@@ -36,12 +43,20 @@ fn main() -> ExitCode {
     let words: Vec<&str> = arguments.iter().map(String::as_str).collect();
     let done = match words[..] {
         ["answer"] => answer(),
+        ["play"] => play(),
+        ["texts-stored", folder] => stored_texts(folder, true),
+        ["texts-long", folder] => stored_texts(folder, false),
+        ["texts", seed, count, folder] => match (seed.parse(), count.parse()) {
+            (Ok(seed), Ok(count)) => write_texts(seed, count, folder),
+            _ => return usage(),
+        },
         [command, seed, calls] => match (seed.parse(), calls.parse()) {
             (Ok(seed), Ok(calls)) => match command {
                 "cases" => cases(seed, calls),
                 "results" => results(seed, calls),
                 "check" => check(seed, calls),
                 "table" => table(seed, calls),
+                "texts-table" => texts_table(seed, calls),
                 _ => return usage(),
             },
             _ => return usage(),
@@ -117,13 +132,40 @@ fn say(text: &str) -> io::Result<()> {
 }
 
 fn show(stage: &Stage) -> io::Result<ExitCode> {
-    say(&stage.cover.table())?;
-    let empty = stage.cover.empty();
+    let empty: Vec<String> = stage.cover.empty().into_iter().map(String::from).collect();
+    tell(&stage.cover.table(), &empty)
+}
+
+/// An empty cell is a failure.
+fn tell(table: &str, empty: &[String]) -> io::Result<ExitCode> {
+    say(table)?;
     if empty.is_empty() {
         return Ok(ExitCode::SUCCESS);
     }
     say(&format!("\nempty cells:\n  {}\n", empty.join("\n  ")))?;
     Ok(ExitCode::FAILURE)
+}
+
+fn play() -> io::Result<ExitCode> {
+    let mut text = Vec::new();
+    io::stdin().lock().read_to_end(&mut text)?;
+    say(&play::transcript(&text))?;
+    Ok(ExitCode::SUCCESS)
+}
+
+fn write_texts(seed: u64, count: u64, folder: &str) -> io::Result<ExitCode> {
+    texts::commands::write_texts(seed, count, folder.as_ref())?;
+    Ok(ExitCode::SUCCESS)
+}
+
+fn stored_texts(folder: &str, kept: bool) -> io::Result<ExitCode> {
+    texts::commands::write_stored(folder.as_ref(), kept)?;
+    Ok(ExitCode::SUCCESS)
+}
+
+fn texts_table(seed: u64, count: u64) -> io::Result<ExitCode> {
+    let (table, empty) = texts::commands::table(seed, count);
+    tell(&table, &empty)
 }
 
 /// The model in the engine's place: so the lines of the cases can be tried against the results.

@@ -29,7 +29,12 @@ pub enum Way<'a> {
     Results(&'a mut dyn Write),
     Check(&'a mut dyn BufRead),
     Table,
+    /// The lines of a schedule that can be played.
+    Schedule(&'a mut Vec<String>),
 }
+
+/// What each step of a schedule lends.
+const LENT: [u32; 256] = [0; 256];
 
 pub struct Stage<'a> {
     pub record: Record,
@@ -97,6 +102,9 @@ impl<'a> Stage<'a> {
         if self.is_over() {
             return Err(Stop::Done);
         }
+        if let (Way::Schedule(_), Call::Advance { .. }) = (&self.way, &call) {
+            self.list = LENT.to_vec();
+        }
         let outcome = calls::run(&self.record, &self.list, &call);
         self.made += 1;
         self.text.clear();
@@ -119,6 +127,7 @@ impl<'a> Stage<'a> {
                 self.count(&call, &outcome);
             }
             Way::Table => self.count(&call, &outcome),
+            Way::Schedule(lines) => lines.extend(text::schedule_line(&call, &self.list)),
         }
         self.record = outcome.record;
         self.list = outcome.list;
@@ -180,7 +189,7 @@ impl<'a> Stage<'a> {
                     return Err(Stop::Difference(report));
                 }
             }
-            Way::Cases(_) | Way::Table => {}
+            Way::Cases(_) | Way::Table | Way::Schedule(_) => {}
         }
         Ok(())
     }

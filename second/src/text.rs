@@ -56,6 +56,19 @@ pub fn write_call(out: &mut String, call: &Call) {
     line(out, call.word(), &call.numbers());
 }
 
+/// The call as a schedule has it, without its newline. A question that no schedule asks has no line.
+pub fn schedule_line(call: &Call, list: &[u32]) -> Option<String> {
+    let mut out = String::new();
+    match call {
+        Call::Size { .. } | Call::Leaving | Call::Audit | Call::Sound => return None,
+        Call::Give { k } => line(&mut out, "give", &[&[*k], list].concat()),
+        Call::Advance { k } => line(&mut out, "step", &[*k]),
+        _ => write_call(&mut out, call),
+    }
+    out.pop();
+    Some(out)
+}
+
 pub fn write_result(out: &mut String, answer: Answer, record: &Record, list: &[u32]) {
     match answer {
         Answer::Accepted => line(out, "answer accepted", &[]),

@@ -1,6 +1,8 @@
 //! The commands together: results into check, a changed line, a missing one, one too many, and the lines of the cases.
 
+use std::fs;
 use std::io::Write;
+use std::path::Path;
 use std::process::{Command, Output, Stdio};
 
 fn second(arguments: &[&str], input: &[u8]) -> Output {
@@ -145,9 +147,52 @@ fn a_shorter_run_is_the_beginning_of_a_longer_one() {
 }
 
 #[test]
+fn a_schedule_is_played() {
+    let output = second(&["play"], b"make 1 1 1\nhire 1\nrepeat 3\nstep 1\nend\n");
+    assert_eq!(text(&output), "1 ok\n2 ok\n3 at 4\n4 at 6\n5 guard 0\n");
+    assert_eq!(output.status.code(), Some(0));
+    assert_eq!(text(&second(&["play"], b"")), "bad line 1\n");
+    assert_eq!(text(&second(&["play"], &[0xff; 100_000])), "too long\n");
+}
+
+#[test]
+fn written_texts_have_their_transcripts() {
+    let folder = Path::new(env!("CARGO_TARGET_TMPDIR")).join("texts");
+    let _ = fs::remove_dir_all(&folder);
+    let written = second(&["texts", "6", "800", folder.to_str().unwrap()], b"");
+    assert_eq!(written.status.code(), Some(0));
+    let mut texts = 0;
+    for entry in fs::read_dir(&folder).unwrap() {
+        let path = entry.unwrap().path();
+        if path.extension().is_some_and(|end| end == "txt") {
+            texts += 1;
+            let kept = fs::read(path.with_extension("out")).unwrap();
+            if texts % 20 == 0 {
+                assert!(second(&["play"], &fs::read(&path).unwrap()).stdout == kept);
+            }
+        }
+    }
+    assert_eq!(texts, 800);
+}
+
+#[test]
+fn empty_cells_of_texts_are_named() {
+    let output = second(&["texts-table", "1", "30"], b"");
+    assert!(text(&output).contains("\nempty cells:\n"));
+    assert_eq!(output.status.code(), Some(1));
+    let output = second(&["texts-table", "1", "800"], b"");
+    assert_eq!(output.status.code(), Some(0));
+}
+
+#[test]
 fn bad_usage() {
     for arguments in [
         &["cases", "1"][..],
+        &["play", "1"],
+        &["texts", "1", "1"],
+        &["texts", "1", "x", "folder"],
+        &["texts-table", "1"],
+        &["texts-stored"],
         &["cases", "1", "x"],
         &["other", "1", "2"],
         &[],

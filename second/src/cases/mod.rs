@@ -19,7 +19,7 @@ pub use {
 };
 
 use crate::chance::Chance;
-use crate::stage::{Go, Stage, Stop};
+use crate::stage::{Go, Stage, Stop, Way};
 
 #[derive(Clone, Copy, Debug, PartialEq, Eq)]
 pub enum Kind {
@@ -105,6 +105,15 @@ pub fn play(seed: u64, stage: &mut Stage) -> Go {
         Err(Stop::Done) => Ok(()),
         other => other,
     }
+}
+
+/// The lines of one schedule from a fresh pool, with refused calls among them.
+pub fn schedule(chance: &mut Chance, number: usize) -> Vec<String> {
+    let mut lines = Vec::new();
+    let mut stage = Stage::new(u64::MAX, Way::Schedule(&mut lines));
+    // Nothing is written to and nothing compared, so nothing can stop it.
+    let _ = schedules::run(&mut stage, chance, number);
+    lines
 }
 
 fn endless(seed: u64, stage: &mut Stage) -> Go {
