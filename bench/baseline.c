@@ -265,6 +265,13 @@ struct answer pool_take(struct pool *p, uint32_t buffer) {
     return says(ACCEPTED, 0);
 }
 
+struct answer pool_ask(const struct pool *p, uint32_t worker, uint32_t buffer) {
+    struct fault found = begin_fault(p, worker);
+    if (!found.number) found = fault_if(buffer < 1 || p->b < buffer, NO_SUCH_BUFFER);
+    if (found.number) return refuses(found.number, found.place);
+    return says(p->states[buffer - 1] == IN_SERVICE ? YES : NO, 0);
+}
+
 static bool repeated(const uint32_t *ids, size_t k) {
     bool found = false;
     for (size_t j = 0; j < k; j++) found |= ids[j] == ids[k];

@@ -33,7 +33,7 @@ struct pool {
     struct id_set sets[WORKERS];
 };
 
-enum said { ACCEPTED, AT, HIRED, NONE_FOUND, FIRED, POSTED, BACK, REFUSED };
+enum said { ACCEPTED, AT, HIRED, NONE_FOUND, FIRED, POSTED, BACK, YES, NO, REFUSED };
 
 // The paper's refusal numbers.
 enum refusal {
@@ -69,5 +69,6 @@ struct answer pool_hire(struct pool *p, uint32_t worker);
 struct answer pool_fire(struct pool *p, uint32_t worker, uint32_t guard);
 struct answer pool_post(struct pool *p, uint32_t worker, uint32_t guard, uint32_t buffer);
 struct answer pool_take(struct pool *p, uint32_t buffer);
+struct answer pool_ask(const struct pool *p, uint32_t worker, uint32_t buffer);
 struct answer pool_give_up(struct pool *p, uint32_t worker, const uint32_t *ids, size_t count);
 struct answer pool_advance(struct pool *p, uint32_t worker, uint32_t *list, size_t length);

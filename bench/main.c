@@ -111,6 +111,11 @@ int main(void) {
         {"16 buffers", 1, TWO(hand_back), .a = 16},
         {"200 buffers", 1, TWO(hand_back), .a = 200},
     };
+    const struct row schedules[] = {
+        {"a schedule of steps, 23 of 33 calls advances", 99001, ONE(played_steps)},
+        {"a schedule of refusals", 99901, ONE(played_refusals)},
+        {"a schedule of questions, 16 KiB and no block", 1638, ONE(played_questions)},
+    };
     const struct row handed = {"one entry stored", 1, ONE(handed)};
     heading("what a call costs, W = 8, G = 32, B = 256");
     for (size_t k = 0; k < sizeof calls / sizeof *calls; k++) measure(&calls[k]);
@@ -120,6 +125,8 @@ int main(void) {
     for (size_t k = 0; k < sizeof buffers / sizeof *buffers; k++) measure(&buffers[k]);
     heading("the advance at label 32, by the size of the set");
     for (size_t k = 0; k < sizeof sets / sizeof *sets; k++) measure(&sets[k]);
+    heading("a call of a schedule: read, played, printed");
+    for (size_t k = 0; k < sizeof schedules / sizeof *schedules; k++) measure(&schedules[k]);
     heading("the record handed in and out, and nothing else done");
     measure(&handed);
     printf("\nBoth sides gave the same answers and ended with the same records.\n");

@@ -1,7 +1,8 @@
 // The workloads of crates/bench on the baseline: the same calls in the same order, and the same checksums. They stand in a file of their own, so that
 // each call is a call, as it is for whoever links a library.
 #include "workloads.h"
-#include "baseline.h"
+#include "player.h"
+#include <stdio.h>
 #include <string.h>
 
 // ---- checksums
@@ -11,6 +12,8 @@ static uint64_t with(uint64_t sum, uint64_t number) { return sum * 33 + number; 
 static uint64_t with_answer(uint64_t sum, struct answer answer) {
     switch (answer.said) {
     case ACCEPTED: return with(sum, 1);
+    case YES: return with(sum, 2);
+    case NO: return with(sum, 3);
     case NONE_FOUND: return with(sum, 4);
     case FIRED: return with(sum, 5);
     case POSTED: return with(sum, 6);
@@ -23,6 +26,11 @@ static uint64_t with_answer(uint64_t sum, struct answer answer) {
 
 static uint64_t with_list(uint64_t sum, const uint32_t *xs, size_t count) {
     for (size_t k = 0; k < count; k++) sum = with(sum, xs[k]);
+    return sum;
+}
+
+static uint64_t with_bytes(uint64_t sum, const char *bytes, size_t count) {
+    for (size_t k = 0; k < count; k++) sum = with(sum, (unsigned char)bytes[k]);
     return sum;
 }
 
@@ -178,4 +186,43 @@ uint64_t baseline_contention(uint64_t times) {
             }
     }
     return with_list(with_record(sum, &p), list, BUFFERS);
+}
+
+// ---- schedules
+
+// The whole text, read and played so many times over.
+static uint64_t played(const char *text, size_t length, uint64_t times) {
+    static uint32_t places[MOST_CALLS];
+    char line[LONGEST_LINE];
+    uint64_t sum = with_bytes(0, text, length);
+    for (uint64_t k = 0; k < times; k++) {
+        struct reading read = schedule_read(text, length, places);
+        if (read.found != CALLS) continue;
+        struct pool p = {0};
+        for (size_t n = 0; n < read.number; n++) sum = with_bytes(sum, line, schedule_play(text, length, places[n], n + 1, &p, line));
+        sum = with_record(sum, &p);
+    }
+    return sum;
+}
+
+uint64_t baseline_played_steps(uint64_t times) {
+    static const char text[] = "make 8 32 256\nrepeat 3\nrepeat 1000\n"
+                               "hire 1\nrepeat 3\nstep 1\nend\ntake 1\n"
+                               "post 1 0 1\nrepeat 2\nstep 1\nend\nask 1 1\n"
+                               "give 2 1\nrepeat 7\nstep 2\nend\nask 2 1\n"
+                               "post 1 0 0\nrepeat 2\nstep 1\nend\n"
+                               "give 2\nrepeat 7\nstep 2\nend\n"
+                               "fire 1 0\nrepeat 2\nstep 1\nend\nask 1 1\nend\nend\n";
+    return played(text, sizeof text - 1, times);
+}
+
+uint64_t baseline_played_refusals(uint64_t times) {
+    static const char text[] = "make 8 32 256\nrepeat 100\nrepeat 999\nask 9 1\nend\nend\n";
+    return played(text, sizeof text - 1, times);
+}
+
+uint64_t baseline_played_questions(uint64_t times) {
+    char text[LONGEST_TEXT + 1] = "make 8 32 256\n";
+    for (unsigned k = 0; k < 1637; k++) snprintf(text + 14 + 10 * k, 11, "ask %u %u\n", 1 + k % 8, 100 + k / 8 % 157);
+    return played(text, LONGEST_TEXT, times);
 }

@@ -11,6 +11,9 @@ uint64_t engine_scan(uint64_t times, uint32_t g, uint32_t b);
 uint64_t engine_contention(uint64_t times);
 uint64_t engine_refused(uint64_t times, size_t rule);
 uint64_t engine_handed(uint64_t times);
+uint64_t engine_played_steps(uint64_t times);
+uint64_t engine_played_refusals(uint64_t times);
+uint64_t engine_played_questions(uint64_t times);
 
 uint64_t baseline_hire_fire(uint64_t times);
 uint64_t baseline_post(uint64_t times);
@@ -20,3 +23,6 @@ uint64_t baseline_scan(uint64_t times, uint32_t g, uint32_t b);
 uint64_t baseline_contention(uint64_t times);
 uint64_t baseline_refused(uint64_t times, size_t rule);
 uint64_t baseline_handed(uint64_t times);
+uint64_t baseline_played_steps(uint64_t times);
+uint64_t baseline_played_refusals(uint64_t times);
+uint64_t baseline_played_questions(uint64_t times);

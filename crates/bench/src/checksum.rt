@@ -35,8 +35,8 @@ fn with_number(sum: u64, number: u32) -> u64 {
     with(sum, number as u64)
 }
 
-fn with_state(sum: u64, state: u8) -> u64 {
-    with(sum, state as u64)
+fn with_byte(sum: u64, byte: u8) -> u64 {
+    with(sum, byte as u64)
 }
 
 fn with_flag(sum: u64, flag: bool) -> u64 {
@@ -55,10 +55,10 @@ pub fn with_list(sum: u64, xs: &[u32]) -> u64 {
     after
 }
 
-fn with_states(sum: u64, xs: &[u8; 256]) -> u64 {
+pub fn with_bytes(sum: u64, bytes: &[u8]) -> u64 {
     let mut after = sum;
-    for k in 0..256usize {
-        after = with_state(after, xs[k]);
+    for k in 0..bytes.len() {
+        after = with_byte(after, bytes[k]);
     }
     after
 }
@@ -91,7 +91,7 @@ pub fn with_record(sum: u64, p: Pool) -> u64 {
     after = with_list(after, &p.posted);
     after = with_list(after, &p.slot_id);
     after = with_list(after, &p.slot_version);
-    after = with_states(after, &p.states);
+    after = with_bytes(after, &p.states);
     for k in 0..8usize {
         let me = p.workers[k];
         let set = p.sets[k];

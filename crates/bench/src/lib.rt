@@ -6,4 +6,5 @@ mod contention;
 mod guards;
 mod handed;
 mod refused;
+mod schedules;
 mod staff;

@@ -31,8 +31,8 @@ with-list-requires-4 c κs = search needs
 with-list-requires-5 : tie.Need-with-list-requires-5 Inv-loop μ-loop
 with-list-requires-5 c κs = search needs
 
-with-states-requires : tie.Need-with-states-requires Inv-loop μ-loop
-with-states-requires c κs = search needs
+with-bytes-requires : tie.Need-with-bytes-requires Inv-loop μ-loop
+with-bytes-requires c κs = search needs
 
 loop-holds : tie.Need-loop-holds Inv-loop μ-loop
 loop-holds c = search needs
@@ -77,7 +77,7 @@ with-record-spec =
     with-list-requires-3
     with-list-requires-4
     with-list-requires-5
-    with-states-requires
+    with-bytes-requires
     loop-holds
     mul-me
     element-copy-out-me
