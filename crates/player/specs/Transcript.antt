@@ -30,9 +30,16 @@ printedFrom k (e ∷ es) = lineFor k (e .answer) (e .list) ++ printedFrom (k + 1
 abbrev pub playedFrom : List Call → Deed → List ℕ
 playedFrom cs d = turnOf d 1 (blank 0 0 0) .bytes ++ printedFrom 2 (seen cs (turnOf d 1 (blank 0 0 0) .pool))
 
+-- what is printed of a text that is not played
+abbrev pub tooLong : List ℕ
+tooLong = bytes "too long\n"
+
+abbrev pub badLine : ℕ → List ℕ
+badLine l = bytes "bad line " ++ (decimal l ++ bytes "\n")
+
 abbrev pub saysOf : List ℕ → Reading → List ℕ
-saysOf s too-long = bytes "too long\n"
-saysOf s (bad-line l) = bytes "bad line " ++ (decimal l ++ bytes "\n")
+saysOf s too-long = tooLong
+saysOf s (bad-line l) = badLine l
 saysOf s (calls places) = playedFrom (unrolled s places) (deedAt s 0)
 
 unfoldable pub transcript : List ℕ → List ℕ
@@ -50,8 +57,7 @@ turnsFrom s k (at ∷ places) p =
 
 -- ---- in the code
 
--- what is printed of a text that is not played
 abbrev pub judgement : Read → List ℕ
-judgement TooLong = bytes "too long\n"
-judgement (BadLine l) = bytes "bad line " ++ (decimal l ++ bytes "\n")
+judgement TooLong = tooLong
+judgement (BadLine l) = badLine l
 judgement (Calls n) = []
