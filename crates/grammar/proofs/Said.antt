@@ -1,4 +1,4 @@
--- What a line says, in the words of the calls' answers; and that a repeat's number is from 1 to 1,000. Assumes nothing.
+-- What a line says, in the words of the calls' answers. Assumes nothing.
 use Prim.Native.Nat.{ℕ, _+_, _-_, _≤_, _<_}
 use native.Mathlib.Omega.{arith}
 use mathlib.Core.Path.{_≡_, refl, ap, sym, _∙_}
@@ -16,7 +16,7 @@ use Rattle.grammar.specs.declared.names.Verb.{Verb}
 use Rattle.grammar.specs.Line.{stopOf, lineBy, lineFrom, lineOf, verbOf, numbersAt}
 use Rattle.grammar.specs.Words.{span, words, wordLength, wordsAfter, numbersOf, allNumbers, tellNumbers}
 use Rattle.grammar.proofs.Laws.{stop-of-within}
-use Rattle.grammar.proofs.Spans.{words-split, word-within}
+use Rattle.grammar.proofs.Spans.{words-to, word-within}
 
 -- the first three of the numbers, in a list of three zeros
 first-three : (l : List ℕ) → writeAt (0 ∷ 0 ∷ 0 ∷ []) 0 l ≡ getD l 0 0 ∷ getD l 1 0 ∷ getD l 2 0 ∷ []
@@ -39,10 +39,7 @@ module _ (s : List ℕ) (at e : ℕ) (h : at ≤ length s) (p : e ≡ stopOf s a
     first-within = word-within s at e w (line-within .0) q
 
     line-words : words (span s at (e - at)) ≡ span s at (w - at) ∷ wordsAfter (span s w (e - w))
-    line-words =
-        let a : w - at ≡ wordLength (span s at (e - at)) = omega (arith, q) in
-        let b : e - at - wordLength (span s at (e - at)) ≡ e - w = omega (arith, q) in
-        rw (a, words-split (e - at) s at, b, ← q)
+    line-words = words-to s at e w q
 
     pub line-numbers : numbersOf (wordsAfter (span s w (e - w))) ≡ numbersAt s at
     unfolding numbersAt

@@ -3,7 +3,7 @@ use Prim.Native.Nat.{ℕ, zero, suc, _+_, _-_, _*_, _≤_, _<_}
 use native.Mathlib.Omega.{arith}
 use mathlib.Core.Path.{_≡_, refl, ap, sym, _∙_}
 use mathlib.Core.List.{List, [], _∷_}
-use mathlib.Core.Bool.{Bool, true, false, not, _&&_}
+use mathlib.Core.Bool.{Bool, true, false, not, _&&_, and-false}
 use lib.ListN.{length, getD, set}
 use lib.Dec.{eqb, leb}
 use borrow.Author.Tests.{eq-eqb, ne-eqb, le-leb, lt-leb, not-true, not-false, leb-true}
@@ -11,7 +11,8 @@ use Rattle.basics.specs.Pick.{when}
 use Rattle.basics.proofs.Truth.{and-left}
 use Rattle.basics.proofs.Picks.{when-both}
 use Rattle.tables.specs.Write.{writeAt}
-use Rattle.tables.proofs.Laws.{write-none, write-cons}
+use Rattle.tables.proofs.Laws.{write-one}
+use Rattle.tables.proofs.Left.{Left, left-on, left-done}
 use Rattle.grammar.specs.declared.numbers.Number.the-variants.{Value, No}
 use Rattle.grammar.specs.declared.numbers.Numbers.{Numbers}
 use Rattle.grammar.specs.Words.{span, words, wordLength, wordsAfter, isDigit, digits, value, unpadded, numberOf, numbersOf, allNumbers, tellNumbers, same}
@@ -54,7 +55,7 @@ pub word-within : (s : List ℕ) (i e j : ℕ) → i ≤ e → j ≡ i + wordLen
 word-within s i e j h p = omega (arith, p, word-length-le (span s i (e - i)), span-length s i (e - i))
 
 -- a line's first word, and those after it
-abbrev pub Split : ℕ → List ℕ → ℕ → Type 0
+abbrev Split : ℕ → List ℕ → ℕ → Type 0
 Split k s i = words (span s i k) ≡ span s i (wordLength (span s i k)) ∷ wordsAfter (span s (i + wordLength (span s i k)) (k - wordLength (span s i k)))
 
 split-more : (k : ℕ) (s : List ℕ) (i : ℕ) (t : Bool) → eqb (getD s i 0) 32 ≡ t → Split k s (i + 1) → Split (suc k) s i
@@ -65,10 +66,17 @@ split-more k s i false e h =
     let y : suc k - suc (wordLength (span s (i + 1) k)) ≡ k - wordLength (span s (i + 1) k) = omega arith in
     rw (e, z, y, h)
 
-pub words-split : (k : ℕ) (s : List ℕ) (i : ℕ) → Split k s i
+words-split : (k : ℕ) (s : List ℕ) (i : ℕ) → Split k s i
 unfolding words wordLength span
 words-split zero s i = refl
 words-split (suc k) s i = split-more k s i (eqb (getD s i 0) 32) refl (words-split k s (i + 1))
+
+-- the same, by the places where the line and its first word end
+pub words-to : (s : List ℕ) (i e w : ℕ) → w ≡ i + wordLength (span s i (e - i)) → words (span s i (e - i)) ≡ span s i (w - i) ∷ wordsAfter (span s w (e - w))
+words-to s i e w q =
+    let a : w - i ≡ wordLength (span s i (e - i)) = omega (arith, q) in
+    let b : e - i - wordLength (span s i (e - i)) ≡ e - w = omega (arith, q) in
+    rw (a, words-split (e - i) s i, b, ← q)
 
 -- a number's digits
 module _ (s : List ℕ) (q j : ℕ) (l : q < j) where
@@ -119,11 +127,7 @@ module _ (w : List ℕ) where
 
   pub number-large : 4294967295 < value 0 w → No ≡ numberOf w
   unfolding numberOf
-  number-large h = refused (unpadded w) (digits w && leb (value 0 w) 4294967295) (value 0 w) (rw (lt-leb (value 0 w) 4294967295 h) (none (digits w)))
-    where
-      none : (t : Bool) → (t && false) ≡ false
-      none true = refl
-      none false = refl
+  number-large h = refused (unpadded w) (digits w && leb (value 0 w) 4294967295) (value 0 w) (rw (lt-leb (value 0 w) 4294967295 h) (and-false (digits w)))
 
   pub number-is : (v : ℕ) → unpadded w ≡ true → digits w ≡ true → v ≡ value 0 w → v ≤ 4294967295 → Value v ≡ numberOf w
   unfolding numberOf when
@@ -150,11 +154,7 @@ tell-first ws = let z : 0 + length (numbersOf ws) ≡ length (numbersOf ws) = om
 
 module _ (s : List ℕ) (e i j n : ℕ) (l : i < e) (p : j ≡ i + 1 + wordLength (span s (i + 1) (e - (i + 1)))) where
   rest : wordsAfter (span s i (e - i)) ≡ span s (i + 1) (j - (i + 1)) ∷ wordsAfter (span s j (e - j))
-  rest =
-      let m = wordLength (span s (i + 1) (e - (i + 1))) in
-      let a : j - (i + 1) ≡ m = omega (arith, p) in
-      let b : e - (i + 1) - m ≡ e - j = omega (arith, p) in
-      rw (span-cons s i e l, a, words-split (e - (i + 1)) s (i + 1), b, ← p)
+  rest = rw (span-cons s i e l) (words-to s (i + 1) e j p)
 
   module _ (q : No ≡ numberOf (span s (i + 1) (j - (i + 1)))) where
     none : numbersOf (wordsAfter (span s i (e - i))) ≡ []
@@ -165,8 +165,8 @@ module _ (s : List ℕ) (e i j n : ℕ) (l : i < e) (p : j ≡ i + 1 + wordLengt
     unfolding allNumbers
     numbers-bad x h = let z : n + 0 ≡ n = omega arith in rw (none, rest, z, ← q) at h
 
-    pub list-bad : (t x : List ℕ) → writeAt t n (numbersOf (wordsAfter (span s i (e - i)))) ≡ x → t ≡ x
-    list-bad t x h = sym (write-none t n) ∙ (rw none at h)
+    pub list-bad : (t₀ l₀ t : List ℕ) → Left t₀ 0 l₀ t n (numbersOf (wordsAfter (span s i (e - i)))) → t ≡ writeAt t₀ 0 l₀
+    list-bad t₀ l₀ t h = left-done _ _ _ _ _ _ h none .1
 
   module _ (v : ℕ) (q : Value v ≡ numberOf (span s (i + 1) (j - (i + 1)))) where
     more : numbersOf (wordsAfter (span s i (e - i))) ≡ v ∷ numbersOf (wordsAfter (span s j (e - j)))
@@ -179,17 +179,17 @@ module _ (s : List ℕ) (e i j n : ℕ) (l : i < e) (p : j ≡ i + 1 + wordLengt
         let z : n + suc (length (numbersOf (wordsAfter (span s j (e - j))))) ≡ n + 1 + length (numbersOf (wordsAfter (span s j (e - j)))) = omega arith in
         rw (more, z, rest, ← q) at h
 
-    pub list-on : (t u x : List ℕ) → u ≡ set t n v → writeAt t n (numbersOf (wordsAfter (span s i (e - i)))) ≡ x → writeAt u (n + 1) (numbersOf (wordsAfter (span s j (e - j)))) ≡ x
-    list-on t u x y h = rw y (sym (write-cons t n v (numbersOf (wordsAfter (span s j (e - j))))) ∙ (rw more at h))
+    pub list-on : (t₀ l₀ t u : List ℕ) → u ≡ set t n v → Left t₀ 0 l₀ t n (numbersOf (wordsAfter (span s i (e - i)))) → Left t₀ 0 l₀ u (n + 1) (numbersOf (wordsAfter (span s j (e - j))))
+    list-on t₀ l₀ t u y h = left-on _ _ _ _ _ _ h (v ∷ []) _ u (n + 1) more (omega arith) (y ∙ sym (write-one t n v))
 
 module _ (s : List ℕ) (e i n : ℕ) (l : e ≤ i) where
   pub numbers-done : (x : Numbers) → tellFrom n (wordsAfter (span s i (e - i))) ≡ x → record { count = n; all = true } ≡ x
   unfolding numbersOf allNumbers
   numbers-done x h = let z : n + 0 ≡ n = omega arith in rw (span-none s i e l, z) at h
 
-  pub list-done : (t x : List ℕ) → writeAt t n (numbersOf (wordsAfter (span s i (e - i)))) ≡ x → t ≡ x
+  pub list-done : (t₀ l₀ t : List ℕ) → Left t₀ 0 l₀ t n (numbersOf (wordsAfter (span s i (e - i)))) → t ≡ writeAt t₀ 0 l₀
   unfolding numbersOf
-  list-done t x h = sym (write-none t n) ∙ (rw (span-none s i e l) at h)
+  list-done t₀ l₀ t h = left-done _ _ _ _ _ _ h (rw (span-none s i e l)) .1
 
 -- two words that are the same
 same-length : (a b : List ℕ) → (length a ≡ length b → ⊥) → false ≡ same a b
@@ -197,11 +197,7 @@ unfolding same
 same-length [] [] h = absurd (h refl)
 same-length [] (y ∷ b) h = refl
 same-length (x ∷ a) [] h = refl
-same-length (x ∷ a) (y ∷ b) h = rw (← same-length a b (λ e. h (ap suc e))) (none (eqb x y))
-  where
-    none : (t : Bool) → false ≡ (t && false)
-    none true = refl
-    none false = refl
+same-length (x ∷ a) (y ∷ b) h = rw (← same-length a b (λ e. h (ap suc e))) (sym (and-false (eqb x y)))
 
 pub named-short : (s w : List ℕ) (i j : ℕ) → (j - i ≡ length w → ⊥) → false ≡ same (span s i (j - i)) (span w 0 (length w))
 named-short s w i j h = same-length (span s i (j - i)) (span w 0 (length w)) (λ e. h (sym (span-length s i (j - i)) ∙ (e ∙ span-length w 0 (length w))))

@@ -7,7 +7,8 @@ use lib.ListN.{length}
 use Rattle.tables.specs.Bytes.{bytes}
 use Rattle.tables.specs.Write.{writeAt}
 use Rattle.printed.specs.Printed.{decimal}
-use Rattle.printed.proofs.Laws.{decimal-fits, put-both}
+use Rattle.tables.proofs.Left.{put-both}
+use Rattle.printed.proofs.Laws.{decimal-fits}
 use Rattle.schedule.specs.declared.Read.{Read}
 use Rattle.schedule.specs.declared.Read.the-variants.{BadLine}
 use Rattle.player.specs.Transcript.{judgement}

@@ -3,7 +3,7 @@ use Prim.Native.Nat.{ℕ, zero, suc, _+_, _*_, _/_, _%_, _^_, _≤_, _<_}
 use native.Mathlib.Nat.{pow-suc}
 use native.Mathlib.Numerals.{add-one}
 use native.Mathlib.Omega.{arith}
-use mathlib.Core.Path.{_≡_, refl, ap, sym, _∙_}
+use mathlib.Core.Path.{_≡_, sym, _∙_}
 use mathlib.Core.List.{List, [], _∷_, _++_}
 use lib.Dec.{ltb}
 use lib.ListN.{length, getD, take, drop, set, length-append, length-take, drop-of-length-le}
@@ -12,7 +12,8 @@ use borrow.Author.Tests.{lt-ltb, le-ltb}
 use Rattle.basics.specs.Pick.{when}
 use Rattle.basics.proofs.Picks.{when-both}
 use Rattle.tables.specs.Write.{writeAt}
-use Rattle.tables.proofs.Laws.{write-none, write-one, write-cons, write-append, write-length}
+use Rattle.tables.proofs.Laws.{write-one, write-cons}
+use Rattle.tables.proofs.Left.{Left, left-first, left-room, left-on, left-done, put-both}
 use Rattle.pool.specs.Answers.{Said, accepted, yes, no, none-found, fired, posted, clear, label, guard, back, count, fault, refused}
 use Rattle.printed.specs.Printed.{decimalIn, decimal, spaced, spacedAll, inWords, lineFor}
 
@@ -83,35 +84,7 @@ unfolding lineFor
 line-fits number a l h =
     omega (arith, length-append (decimal number) (inWords a l ++ (10 ∷ [])), length-append (inWords a l) (10 ∷ []), decimal-fits number, words-fit a l h)
 
--- ---- a part written, then the next
-
-pub put-both : (t w v a b : List ℕ) (at to r : ℕ) → to ≡ at + length a → w ≡ writeAt t at a → r ≡ to + length b → v ≡ writeAt w to b → (r ≡ at + length (a ++ b)) × (v ≡ writeAt t at (a ++ b))
-put-both t w v a b at to r p e q f = (omega (arith, length-append a b), f ∙ (rw (e, p) (sym (write-append t at a b))))
-
--- what is still to be written: in the table t from place k on the list l, as in t₀ from k₀ on the list l₀
-pub record Left (t₀ : List ℕ) (k₀ : ℕ) (l₀ t : List ℕ) (k : ℕ) (l : List ℕ) : Type 0 where
-  pub place : k + length l ≡ k₀ + length l₀
-  pub wide : length t ≡ length t₀
-  pub bytes : writeAt t k l ≡ writeAt t₀ k₀ l₀
-
-pub left-first : (t : List ℕ) (k : ℕ) (l : List ℕ) → Left t k l t k l
-left-first t k l = record { place = refl; wide = refl; bytes = refl }
-
-module _ (t₀ : List ℕ) (k₀ : ℕ) (l₀ t : List ℕ) (k : ℕ) (l : List ℕ) (h : Left t₀ k₀ l₀ t k l) where
-  left-room : (a b : List ℕ) → l ≡ a ++ b → k₀ + length l₀ ≤ length t₀ → k + length a ≤ length t
-  left-room a b e r = omega (arith, h .place, h .wide, ap length e, length-append a b)
-
-  left-on : (a b w : List ℕ) (r : ℕ) → l ≡ a ++ b → r ≡ k + length a → w ≡ writeAt t k a → Left t₀ k₀ l₀ w r b
-  left-on a b w r e p q = record {
-    place = omega (arith, h .place, ap length e, length-append a b);
-    wide = rw q (write-length t k a ∙ h .wide);
-    bytes = rw (q, p) (sym (write-append t k a b) ∙ (rw e at (h .bytes)));
-  }
-
-  left-done : l ≡ [] → (k ≡ k₀ + length l₀) × (t ≡ writeAt t₀ k₀ l₀)
-  left-done e = (omega (arith, h .place, ap length e), sym (write-none t k) ∙ (rw e at (h .bytes)))
-
--- a turn of each loop
+-- ---- a turn of each loop
 pub bytes-first : (t : List ℕ) (k : ℕ) (s : List ℕ) → Left t k s t (k + 0) (drop 0 s)
 bytes-first t k s = let e : k + 0 ≡ k = omega arith in rw e (left-first t k s)
 

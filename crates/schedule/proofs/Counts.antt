@@ -8,19 +8,13 @@ use Rattle.basics.specs.Pick.{when}
 use Rattle.basics.proofs.Truth.{by-order}
 use Rattle.schedule.specs.Text.{lower, cap}
 
-lower-second : (a b : ℕ) → b ≤ a → lower a b ≡ b
+pub lower-second : (a b : ℕ) → b ≤ a → lower a b ≡ b
 unfolding lower when
 lower-second a b h = by-order a b (λ l. rw (le-ltb b a l) (omega arith)) (λ l. rw (lt-ltb b a l))
 
-lower-first : (a b : ℕ) → a ≤ b → lower a b ≡ a
+pub lower-first : (a b : ℕ) → a ≤ b → lower a b ≡ a
 unfolding lower when
 lower-first a b h = rw (le-ltb b a h)
-
-pub lower-none : (n b : ℕ) → b ≤ n → lower n b ≡ b
-lower-none n b h = lower-second n b h
-
-pub lower-kept : (a n : ℕ) → a ≤ n → lower a n ≡ a
-lower-kept a n h = lower-first a n h
 
 pub lower-within : (a b n : ℕ) → b ≤ n → lower a b ≤ n
 lower-within a b n h = by-order a b (λ l. rw (lower-first a b l) (omega arith)) (λ l. rw (lower-second a b (omega arith)) h)

@@ -4,44 +4,45 @@ use native.Mathlib.Omega.{arith}
 use mathlib.Core.Path.{_≡_, refl, ap, sym, _∙_, subst}
 use mathlib.Core.List.{List, [], _∷_, _++_}
 use mathlib.Core.Bool.{Bool, true, false}
-use lib.ListN.{length, set, length-append}
+use lib.ListN.{length, set}
 use lib.Dec.{eqb, ltb}
 use borrow.Author.Tests.{eqb-false}
-use types.Run.{OneOf, miss}
+use types.Run.{OneOf}
 use denote.Enum.Declared.{tagOf}
 use Rattle.basics.specs.Pick.{when}
 use Rattle.grammar.specs.Line.{afterOf, kindOf}
 use Rattle.grammar.specs.declared.Kind.{Kind}
-use Rattle.grammar.specs.declared.Kind.the-variants.{Make, Call, Repeat, End, Wrong}
+use Rattle.grammar.specs.declared.Kind.the-variants.{Call, Repeat}
 use Rattle.grammar.proofs.Kind as K
 use Rattle.grammar.proofs.Laws.{after-within}
 use Rattle.grammar.proofs.Lawful.{repeat-range}
 use Rattle.tables.specs.Write.{writeAt, partOf, copies}
-use Rattle.tables.proofs.Laws.{write-none, write-one, write-append, write-length, part-written, copies-length, some-le}
+use Rattle.tables.proofs.Left.{Left, left-first, left-room, left-on, left-done}
+use Rattle.tables.proofs.Laws.{write-one, write-append, write-length, part-written, copies-length, some-le}
 use Rattle.schedule.specs.declared.Put.{Put}
 use Rattle.schedule.specs.Text.{Block, Ready, andThen, isEnd, tooDeep, lineWith, blockAt, lineAt, put}
 use Rattle.schedule.proofs.Counts.{lower-back}
+use Rattle.schedule.proofs.Turns.{other}
 use Rattle.schedule.proofs.Blocks.{at-within, line-at-beyond, stopped, block-none, block-end, block-step}
 
 -- from the block's start, where the table was t₀, to its rest, with the table t
 pub record Going (s : List ℕ) (whole rest : Block) (t₀ t : List ℕ) (k to : ℕ) : Type 0 where
-  pub wide : length t ≡ length t₀
   pub sound : rest .fault ≡ length s
   pub ends : rest .next ≡ whole .next
-  pub upto : to + length (rest .calls) ≡ k + length (whole .calls)
-  pub wrote : writeAt t to (rest .calls) ≡ writeAt t₀ k (whole .calls)
+  pub left : Left t₀ k (whole .calls) t to (rest .calls)
 
 same-put : {n u n′ u′ : ℕ} → n ≡ n′ → u ≡ u′ → _≡_ {A = Put} (record { next = n; upto = u }) (record { next = n′; upto = u′ })
 same-put p q = λ i. record { next = p i; upto = q i }
 
 pub going-first : (s : List ℕ) (b : Block) (t : List ℕ) (k : ℕ) → Ready s b t k → Going s b b t t k k
-going-first s b t k r = record { wide = refl; sound = r .sound; ends = refl; upto = refl; wrote = refl }
+going-first s b t k r = record { sound = r .sound; ends = refl; left = left-first t k (b .calls) }
 
 module _ (s : List ℕ) (i d : ℕ) (b : Block) (t₀ t : List ℕ) (k to : ℕ) (g : Going s b (blockAt s i d) t₀ t k to) where
   going-last : blockAt s i d ≡ stopped s i → (_≡_ {A = Put} (record { next = i; upto = to }) (put b k)) × (t ≡ writeAt t₀ k (b .calls))
   going-last e =
       let h : Going s b (stopped s i) t₀ t k to = subst (λ (x : Block). Going s b x t₀ t k to) e g in
-      (same-put (h .ends) (omega (arith, h .upto)), sym (write-none t to) ∙ h .wrote)
+      let d = left-done _ _ _ _ _ _ (h .left) refl in
+      (same-put (h .ends) (d .0), d .1)
 
   pub going-none : length s ≤ i → (_≡_ {A = Put} (record { next = i; upto = to }) (put b k)) × (t ≡ writeAt t₀ k (b .calls))
   going-none l = going-last (block-none s i d l)
@@ -64,20 +65,16 @@ module _ (s : List ℕ) (i d : ℕ) (b : Block) (t₀ t : List ℕ) (k to : ℕ)
           record {
             short = w;
             sound = faults .0;
-            room = omega (arith, split .upto, length-append (lineAt s i d .calls) (blockAt s (lineAt s i d .next) d .calls), g .wide);
+            room = left-room _ _ _ _ _ _ (split .left) (lineAt s i d .calls) (blockAt s (lineAt s i d .next) d .calls) refl room;
           }
 
       pub going-on : (u : List ℕ) (x : Put) → x ≡ put (lineAt s i d) to → u ≡ writeAt t to (lineAt s i d .calls) → Going s b (blockAt s (x .next) d) t₀ u k (x .upto)
       going-on u x y z =
-          let a = lineAt s i d .calls in
-          let c = blockAt s (lineAt s i d .next) d .calls in
-          rw (y, z)
+          rw y
           (record {
-            wide = write-length t to a ∙ g .wide;
             sound = faults .1;
             ends = split .ends;
-            upto = omega (arith, split .upto, length-append a c);
-            wrote = sym (write-append t to a c) ∙ split .wrote;
+            left = left-on _ _ _ _ _ _ (split .left) (lineAt s i d .calls) (blockAt s (lineAt s i d .next) d .calls) u _ refl refl z;
           })
 
       pub going-within : (x : Put) → x ≡ put (lineAt s i d) to → (i < x .next) × (x .next ≤ length s)
@@ -102,15 +99,8 @@ module _ (s : List ℕ) (at d : ℕ) (t : List ℕ) (k : ℕ) (kd : Kind) (n : �
   pub put-call : kd ≡ Call → (_≡_ {A = Put} (record { next = n; upto = k + 1 }) (put (lineAt s at d) k)) × (set t k at ≡ writeAt t k (lineAt s at d .calls))
   put-call e = rw (by-kind Call e) (same-put q refl, sym (write-one t k at))
 
-  other : (m : Kind) → OneOf (0 ∷ 3 ∷ 4 ∷ []) (tagOf K.the-type m) → lineWith m (blockAt s (afterOf s at) (d - 1)) s at d .fault ≡ at
-  other Make h = refl
-  other Call h = absurd (miss (0 ∷ 3 ∷ 4 ∷ []) 1 tt h)
-  other (Repeat m) h = absurd (miss (0 ∷ 3 ∷ 4 ∷ []) 2 tt h)
-  other End h = refl
-  other Wrong h = refl
-
   pub put-other : OneOf (0 ∷ 3 ∷ 4 ∷ []) (tagOf K.the-type kd) → {P : Type 0} → P
-  put-other h = absurd (omega (arith, ready .sound, ap (λ (x : Block). x .fault) (by-kind kd refl), other kd h))
+  put-other h = absurd (omega (arith, ready .sound, ap (λ (x : Block). x .fault) (by-kind kd refl ∙ other kd _ s at d h)))
 
   module _ (m : ℕ) (e : kd ≡ Repeat m) where
     abbrev shut : Block

@@ -19,7 +19,7 @@ use Rattle.grammar.proofs.Lawful.{repeat-range}
 use Rattle.tables.proofs.Laws.{copies-length}
 use Rattle.schedule.specs.declared.Got.{Got}
 use Rattle.schedule.specs.Text.{Block, lower, isEnd, endOf, single, lineWith, blockAt, lineAt, cap, tell}
-use Rattle.schedule.proofs.Counts.{lower-none, lower-kept, lower-within, lower-assoc, cap-small, cap-le, cap-left, cap-right, cap-times}
+use Rattle.schedule.proofs.Counts.{lower-first, lower-second, lower-within, lower-assoc, cap-small, cap-le, cap-left, cap-right, cap-times}
 use Rattle.schedule.proofs.Seek.{end-of-within}
 use Rattle.schedule.proofs.Blocks.{at-within, line-at-beyond, stopped, block-none, block-end, block-step}
 
@@ -44,11 +44,11 @@ counts c a b n e =
 module _ (s : List ℕ) (i d : ℕ) where
   pub turn-first : i ≤ length s → joined (length s) 0 (tell (blockAt s i d)) ≡ tell (blockAt s i d)
   turn-first h =
-      same-got refl (lower-none (length s) (blockAt s i d .fault) (at-within s i d h .2))
+      same-got refl (lower-second (length s) (blockAt s i d .fault) (at-within s i d h .2))
       (cap-right 0 (length (blockAt s i d .calls)) ∙ ap cap (zero-add (length (blockAt s i d .calls))))
 
   turn-last : (f c : ℕ) (b : Got) → blockAt s i d ≡ stopped s i → f ≤ length s → c ≤ 100001 → joined f c (tell (blockAt s i d)) ≡ b → _≡_ {A = Got} (record { next = i; fault = f; calls = c }) b
-  turn-last f c b e w v h = same-got refl (sym (lower-kept f (length s) w)) (sym (calls-kept c v)) ∙ (ap (λ (x : Block). joined f c (tell x)) (sym e) ∙ h)
+  turn-last f c b e w v h = same-got refl (sym (lower-first f (length s) w)) (sym (calls-kept c v)) ∙ (ap (λ (x : Block). joined f c (tell x)) (sym e) ∙ h)
     where
       calls-kept : (c : ℕ) → c ≤ 100001 → cap (c + cap 0) ≡ c
       calls-kept c v = cap-right c 0 ∙ (ap cap (plus-none c) ∙ cap-small c v)
@@ -74,6 +74,14 @@ module _ (s : List ℕ) (i d : ℕ) where
   pub turn-within : (g : Got) → i < length s → g ≡ tell (lineAt s i d) → (i < g .next) × (g .next ≤ length s) × (g .fault ≤ length s) × (g .calls ≤ 100001)
   turn-within g l e = rw e (line-at-beyond s i d l .0, line-at-beyond s i d l .1, line-at-beyond s i d l .2, cap-le (length (lineAt s i d .calls)))
 
+-- a line that is neither a call nor a repeat
+pub other : (k : Kind) (b : Block) (s : List ℕ) (at d : ℕ) → OneOf (0 ∷ 3 ∷ 4 ∷ []) (tagOf K.the-type k) → lineWith k b s at d ≡ single s at at []
+other Make b s at d h = refl
+other Call b s at d h = absurd (miss (0 ∷ 3 ∷ 4 ∷ []) 1 tt h)
+other (Repeat m) b s at d h = absurd (miss (0 ∷ 3 ∷ 4 ∷ []) 2 tt h)
+other End b s at d h = refl
+other Wrong b s at d h = refl
+
 module _ (s : List ℕ) (at d : ℕ) (k : Kind) (n : ℕ) (p : k ≡ kindOf s at) (q : n ≡ afterOf s at) where
   abbrev inner : Block
   inner = blockAt s (afterOf s at) (d - 1)
@@ -82,16 +90,9 @@ module _ (s : List ℕ) (at d : ℕ) (k : Kind) (n : ℕ) (p : k ≡ kindOf s at
   unfolding lineAt
   said-call e = rw (← p, e) (same-got q refl (sym (cap-small 1 (omega arith))))
 
-  other : (k : Kind) → OneOf (0 ∷ 3 ∷ 4 ∷ []) (tagOf K.the-type k) → lineWith k inner s at d ≡ single s at at []
-  other Make h = refl
-  other Call h = absurd (miss (0 ∷ 3 ∷ 4 ∷ []) 1 tt h)
-  other (Repeat m) h = absurd (miss (0 ∷ 3 ∷ 4 ∷ []) 2 tt h)
-  other End h = refl
-  other Wrong h = refl
-
   pub said-other : OneOf (0 ∷ 3 ∷ 4 ∷ []) (tagOf K.the-type k) → _≡_ {A = Got} (record { next = n; fault = at; calls = 0 }) (tell (lineAt s at d))
   unfolding lineAt
-  said-other h = rw (← p, other k h) (same-got q refl (sym (cap-small 0 (omega arith))))
+  said-other h = rw (← p, other k inner s at d h) (same-got q refl (sym (cap-small 0 (omega arith))))
 
   pub said-deep : (m e j : ℕ) → k ≡ Repeat m → d ≡ 0 → e ≡ endOf s n 0 → j ≡ afterOf s e → _≡_ {A = Got} (record { next = j; fault = at; calls = 0 }) (tell (lineAt s at d))
   unfolding lineAt when

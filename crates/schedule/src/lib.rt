@@ -36,7 +36,7 @@ fn is_end(k: Kind) -> bool
     if let Kind::End = k { true } else { false }
 }
 
-// Whether a line ends the block that is read, with `open` blocks open in it.
+// Whether a line ends the block that is read, with `opens` blocks open in it.
 fn ends(k: Kind, opens: usize) -> bool
     ensures { λ r. ⌜ r ≡ (isEnd k && eqb opens 0) ⌝ }
 {

@@ -4,7 +4,7 @@ use native.Mathlib.Nat.{zero-mul, suc-mul, mul-le-mul-right, mul-zero}
 use native.Mathlib.Numerals.{add-one}
 use native.Mathlib.Omega.{arith}
 use mathlib.Core.Path.{_≡_, refl, ap, sym, _∙_}
-use mathlib.Core.List.{List, [], _∷_, _++_, append-assoc}
+use mathlib.Core.List.{List, [], _∷_, _++_, append-nil, append-assoc}
 use lib.ListN.{length, getD, set, take, drop, take-append-drop, length-set, length-append}
 use lib.Seq.{getD-set-same, getD-set-other, take-suc-set, drop-set-lt}
 use Rattle.basics.specs.Below.{table}
@@ -75,11 +75,7 @@ copies-none (suc n) = copies-none n
 
 pub copies-last : (n : ℕ) (l : List ℕ) → copies (suc n) l ≡ copies n l ++ l
 unfolding copies
-copies-last zero l = append-none l
-  where
-    append-none : (l : List ℕ) → l ++ [] ≡ l
-    append-none [] = refl
-    append-none (x ∷ l) = ap (λ (r : List ℕ). x ∷ r) (append-none l)
+copies-last zero l = append-nil l
 copies-last (suc n) l = ap (λ (r : List ℕ). l ++ r) (copies-last n l) ∙ sym (append-assoc l (copies n l) l)
 
 pub copies-length : (n : ℕ) (l : List ℕ) → length (copies n l) ≡ n * length l

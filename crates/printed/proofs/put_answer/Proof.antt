@@ -2,7 +2,7 @@
 use native.Mathlib.Omega.{arith}
 use borrow.Author.Needs.{needs}
 use Rattle.printed.specs.Printed.{inWords}
-use Rattle.printed.proofs.Laws.{put-both}
+use Rattle.tables.proofs.Left.{put-both}
 use Rattle.printed.proofs.put_answer.Statement.{statement}
 use Rattle.printed.proofs.put_answer.Tie as tie
 

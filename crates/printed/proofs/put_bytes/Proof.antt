@@ -2,7 +2,8 @@
 use Prim.Native.Nat.{_+_, _-_, _≤_}
 use lib.ListN.{length, drop}
 use borrow.Author.Needs.{needs}
-use Rattle.printed.proofs.Laws.{Left, bytes-first, bytes-on, bytes-done}
+use Rattle.tables.proofs.Left.{Left}
+use Rattle.printed.proofs.Laws.{bytes-first, bytes-on, bytes-done}
 use Rattle.printed.proofs.put_bytes.Statement.{statement}
 use Rattle.printed.proofs.put_bytes.Tie as tie
 

@@ -4,7 +4,8 @@ use native.Mathlib.Omega.{arith}
 use lib.ListN.{length, take, drop}
 use borrow.Author.Needs.{needs}
 use Rattle.printed.specs.Printed.{spacedAll}
-use Rattle.printed.proofs.Laws.{Left, left-first, ids-room, ids-on, ids-stop, ids-end}
+use Rattle.tables.proofs.Left.{Left, left-first}
+use Rattle.printed.proofs.Laws.{ids-room, ids-on, ids-stop, ids-end}
 use Rattle.printed.proofs.put_ids.Statement.{statement}
 use Rattle.printed.proofs.put_ids.Tie as tie
 

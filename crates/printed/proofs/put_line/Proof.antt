@@ -3,7 +3,7 @@ use native.Mathlib.Omega.{arith}
 use lib.ListN.{length-append}
 use borrow.Author.Needs.{needs}
 use Rattle.printed.specs.Printed.{lineFor}
-use Rattle.printed.proofs.Laws.{put-both}
+use Rattle.tables.proofs.Left.{put-both}
 use Rattle.printed.proofs.put_line.Statement.{statement}
 use Rattle.printed.proofs.put_line.Tie as tie
 

@@ -2,7 +2,7 @@
 use native.Mathlib.Omega.{arith}
 use lib.ListN.{length-append}
 use borrow.Author.Needs.{needs}
-use Rattle.printed.proofs.Laws.{put-both}
+use Rattle.tables.proofs.Left.{put-both}
 use Rattle.printed.proofs.put_one.Statement.{statement}
 use Rattle.printed.proofs.put_one.Tie as tie
 

@@ -3,7 +3,7 @@ use native.Mathlib.Omega.{arith}
 use mathlib.Core.List.{append-assoc}
 use lib.ListN.{length-append}
 use borrow.Author.Needs.{needs}
-use Rattle.printed.proofs.Laws.{put-both}
+use Rattle.tables.proofs.Left.{put-both}
 use Rattle.printed.proofs.put_two.Statement.{statement}
 use Rattle.printed.proofs.put_two.Tie as tie
 

@@ -64,7 +64,7 @@ put-block-is-end-requires : (t : ℕ) → put-block-lts.Need-is-end-requires (pu
 put-block-is-end-requires t c κs = search needs
 
 put-block-same-length : (t : ℕ) → put-block-lts.Need-same-length (put-block-claims t) (put-block-at t) put-block.Post put-block-Inv-loop put-block-μ-loop
-put-block-same-length t c = c .before .before .before .before .loop .inv .1 .wide
+put-block-same-length t c = c .before .before .before .before .loop .inv .1 .left .wide
 
 put-block-returns : (t : ℕ) → put-block-lts.Need-returns (put-block-claims t) (put-block-at t) put-block.Post put-block-Inv-loop put-block-μ-loop
 put-block-returns t c =
@@ -96,7 +96,7 @@ put-block-loop-again t c =
     (w .1, going-on _ (l .i) _ _ _ (l .t) _ (l .to) (l .inv .1) _ (e .is-end .result) (e .before .kind-at .ensures) (e .is-end .ensures) (e .before .before .loop-test .taken) (p .before .before .if1 .left) _ (p .put-line .result) (p .put-line .ensures .0) (p .put-line .ensures .1), omega arith)
 
 put-block-same-length-2 : (t : ℕ) → put-block-lts.Need-same-length-2 (put-block-claims t) (put-block-at t) put-block.Post put-block-Inv-loop put-block-μ-loop
-put-block-same-length-2 t c = c .before .loop .inv .1 .wide
+put-block-same-length-2 t c = c .before .loop .inv .1 .left .wide
 
 put-block-returns-2 : (t : ℕ) → put-block-lts.Need-returns-2 (put-block-claims t) (put-block-at t) put-block.Post put-block-Inv-loop put-block-μ-loop
 put-block-returns-2 t c =

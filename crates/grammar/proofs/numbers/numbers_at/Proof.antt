@@ -2,24 +2,23 @@
 use borrow.Author.Needs.{needs}
 use Prim.Native.Nat.{_-_, _≤_}
 use native.Mathlib.Omega.{arith}
-use mathlib.Core.Path.{_≡_, refl, sym, _∙_}
-use lib.ListN.{length}
-use Rattle.tables.specs.Write.{writeAt}
+use mathlib.Core.Path.{_≡_, sym, _∙_}
 use Rattle.grammar.specs.Words.{span, wordsAfter, numbersOf, tellNumbers}
+use Rattle.tables.proofs.Left.{Left, left-first}
 use Rattle.grammar.proofs.Spans.{tellFrom, tell-first, word-within, numbers-bad, list-bad, numbers-on, list-on, numbers-done, list-done}
 use Rattle.grammar.proofs.numbers.numbers_at.Statement.{statement}
 use Rattle.grammar.proofs.numbers.numbers_at.Tie as tie
 
 abbrev Inv-loop : tie.InvT-loop
 Inv-loop s w e list₀ i₀ n₀ list i n =
-    (w ≤ i) × (i ≤ e) × (n ≤ i) × (length list ≡ length list₀) × (tellFrom n (wordsAfter (span s i (e - i))) ≡ tellNumbers (wordsAfter (span s w (e - w))))
-    × (writeAt list n (numbersOf (wordsAfter (span s i (e - i)))) ≡ writeAt list₀ 0 (numbersOf (wordsAfter (span s w (e - w)))))
+    (w ≤ i) × (i ≤ e) × (n ≤ i) × (tellFrom n (wordsAfter (span s i (e - i))) ≡ tellNumbers (wordsAfter (span s w (e - w))))
+    × Left list₀ 0 (numbersOf (wordsAfter (span s w (e - w)))) list n (numbersOf (wordsAfter (span s i (e - i))))
 
 abbrev μ-loop : tie.MeasureT-loop
 μ-loop s w e list₀ i₀ n₀ list i n = e - i
 
 loop-holds : tie.Need-loop-holds Inv-loop μ-loop
-loop-holds c = (search needs, search needs, search needs, refl, tell-first _, refl)
+loop-holds c = (search needs, search needs, search needs, tell-first _, left-first _ _ _)
 
 add-word-end : tie.Need-add-word-end Inv-loop μ-loop
 add-word-end c = search needs
@@ -46,8 +45,8 @@ returns c =
     let k = c .before .before in
     let l = k .before .before .before .loop in
     let z = sym (c .enum-told .given .1) ∙ k .number-at .ensures in (
-      numbers-bad _ _ (l .i) _ (l .n) (k .before .before .loop-test .taken) (k .before .word-end .ensures) z _ (l .inv .4),
-      list-bad _ _ (l .i) _ (l .n) (k .before .before .loop-test .taken) (k .before .word-end .ensures) z _ _ (l .inv .5),
+      numbers-bad _ _ (l .i) _ (l .n) (k .before .before .loop-test .taken) (k .before .word-end .ensures) z _ (l .inv .3),
+      list-bad _ _ (l .i) _ (l .n) (k .before .before .loop-test .taken) (k .before .word-end .ensures) z _ _ _ (l .inv .4),
     )
 
 enum-known-v : tie.Need-enum-known-v Inv-loop μ-loop
@@ -74,9 +73,8 @@ loop-again c =
       omega arith,
       w .1,
       omega arith,
-      c .before .before .store .kept .0 ∙ l .inv .3,
-      numbers-on _ _ (l .i) _ (l .n) (k .before .before .loop-test .taken) (k .before .word-end .ensures) _ z _ (l .inv .4),
-      list-on _ _ (l .i) _ (l .n) (k .before .before .loop-test .taken) (k .before .word-end .ensures) _ z _ _ _ (c .before .before .store .ensures) (l .inv .5),
+      numbers-on _ _ (l .i) _ (l .n) (k .before .before .loop-test .taken) (k .before .word-end .ensures) _ z _ (l .inv .3),
+      list-on _ _ (l .i) _ (l .n) (k .before .before .loop-test .taken) (k .before .word-end .ensures) _ z _ _ _ _ (c .before .before .store .ensures) (l .inv .4),
     )
 
 same-length-2 : tie.Need-same-length-2 Inv-loop μ-loop
@@ -85,7 +83,7 @@ same-length-2 c = search needs
 returns-2 : tie.Need-returns-2 Inv-loop μ-loop
 returns-2 c =
     let l = c .before .loop in
-    (numbers-done _ _ (l .i) (l .n) (c .loop-test .left) _ (l .inv .4), list-done _ _ (l .i) (l .n) (c .loop-test .left) _ _ (l .inv .5))
+    (numbers-done _ _ (l .i) (l .n) (c .loop-test .left) _ (l .inv .3), list-done _ _ (l .i) (l .n) (c .loop-test .left) _ _ _ (l .inv .4))
 
 pub numbers-at-spec : {M : Type 1} → statement M
 numbers-at-spec =
