@@ -4,4 +4,5 @@ pub mod Picks
 pub mod All
 pub mod Any
 pub mod Count
+pub mod Different
 pub mod Table

@@ -2,13 +2,14 @@
 use mathlib.Core.Path.{_≡_}
 use mathlib.Core.Bool.{true, false}
 use mathlib.Core.List.{List}
-use Prim.Native.Nat.{ℕ, _<_}
+use Prim.Native.Nat.{ℕ, _≤_, _<_}
 use lib.Dec.{eqb}
 use lib.ListN.{length, getD}
 use borrow.Author.Tests.{eqb-true}
 use Rattle.basics.specs.Among.{amongFirst, among}
 use Rattle.basics.proofs.Picks.{when-back, unless-back}
 use Rattle.basics.proofs.Any.{among-each}
+use Rattle.basics.proofs.Different.{different-few}
 use Rattle.pool.specs.declared.Pool.{Pool}
 use Rattle.pool.specs.Answers.{fine, refuse}
 use Rattle.pool.specs.Record.{stateOf}
@@ -34,6 +35,12 @@ module _ (p : Pool) (ids : List ℕ) where
 
   pub listed : (n : ℕ) → listCheck p ids n ≡ fine → (k : ℕ) → k < n → Listed p ids k
   listed n h k l = entry-listed k (each-fine (entryCheck p ids) n h k l)
+
+  -- so of a list that is longer than B one of the first B + 1 entries is at fault
+  pub listed-few : (n : ℕ) → listCheck p ids n ≡ fine → n ≤ p .b
+  listed-few n h = different-few ids (p .b) n (λ k l.
+      let e = listed n h k l in
+      record { some = e .names .some; most = e .names .most; first = e .first-named })
 
   pub listed-buffer : listCheck p ids (length ids) ≡ fine → (id : ℕ) → among ids id ≡ true → Buffer p id
   listed-buffer h = among-each (Buffer p) ids (λ k l. listed (length ids) h k l .names)
