@@ -99,6 +99,9 @@ unfolding setOf wordOf
 setOf-formed p =
     formed-words (pack-lt (λ k. p (suc (0 + k))) 64) (pack-lt (λ k. p (suc (64 + k))) 64) (pack-lt (λ k. p (suc (128 + k))) 64) (pack-lt (λ k. p (suc (192 + k))) 64)
 
+pub formed-by : {s : IdSet} (p : ℕ → Bool) → s ≡ setOf p → Formed s
+formed-by p e = subst Formed (sym e) (setOf-formed p)
+
 pub member-setOf : (p : ℕ → Bool) (b : ℕ) → memberOf (setOf p) b ≡ (isId b && p b)
 unfolding memberOf wordOf
 member-setOf p b = and-cong (isId b) (λ e.

@@ -1,4 +1,5 @@
 -- Membership of an id in a set, and the sets, counts and searches that the contracts state by it.
+use mathlib.Core.Path.{_≡_}
 use mathlib.Core.Bool.{Bool, false, not, _&&_, _||_}
 use mathlib.Core.List.{List, [], _∷_}
 use Prim.Native.Nat.{ℕ, zero, suc, _+_, _-_, _*_, _/_, _%_, _^_, max}
@@ -15,6 +16,10 @@ digit n k = eqb (n / 2 ^ k % 2) 1
 -- the ids that a set can hold: 0 is no buffer
 unfoldable pub isId : ℕ → Bool
 isId b = leb 1 b && leb b 256
+
+-- the set that four words are
+abbrev pub setIn : List ℕ → IdSet
+setIn words = record { words = words }
 
 -- b is a member of s: its mark is set
 unfoldable pub memberOf : IdSet → ℕ → Bool
@@ -34,6 +39,10 @@ wordOf p base = pack (λ k. p (suc (base + k))) 64
 -- the set of the ids that p holds of
 unfoldable pub setOf : (ℕ → Bool) → IdSet
 setOf p = record { words = wordOf p 0 ∷ wordOf p 64 ∷ wordOf p 128 ∷ wordOf p 192 ∷ [] }
+
+-- s is nothing but its members' marks: four words of 64 digits, as every array of the code is; behind a reference no contract knows it
+abbrev pub MarksAlone : IdSet → Type 0
+MarksAlone s = s ≡ setOf (memberOf s)
 
 unfoldable pub noIds : IdSet
 noIds = setOf (λ b. false)

@@ -4,7 +4,7 @@
 ghost use mathlib.Core.Path.{_≡_};
 ghost use Prim.Native.Nat.{_-_, _^_, max};
 ghost use lib.Dec.{ltb};
-ghost use Rattle.idset.specs.Members.{memberOf, noIds, withOf, withoutOf, sizeOf, nextMark, withinOf, largerOf};
+ghost use Rattle.idset.specs.Members.{setIn, MarksAlone, memberOf, noIds, withOf, withoutOf, sizeOf, nextMark, withinOf, largerOf};
 
 pub struct IdSet {
     pub words: [u64; 4],
@@ -40,6 +40,25 @@ pub fn next_mark(word: u64, from: u32) -> u32
         return 64;
     }
     from + u64::trailing_zeros(rest)
+}
+
+// Marks id in the words of a set, and answers whether it was marked. 0 and what is above 256 change nothing.
+pub fn mark(words: &mut [u64; 4], id: u32) -> bool
+    ensures marked { λ _. ⌜ (MarksAlone (setIn (now (words .entry))) → setIn (now (words .exit)) ≡ withOf (setIn (now (words .entry))) id) ⌝ }
+    ensures met { λ r. ⌜ r ≡ memberOf (setIn (now (words .entry))) id ⌝ }
+{
+    if id < 1 {
+        return false;
+    }
+    if 256 < id {
+        return false;
+    }
+    let at = id - 1;
+    let i = (at / 64) as usize;
+    let before = words[i];
+    let after = before | (1u64 << (at % 64));
+    words[i] = after;
+    ((before >> (at % 64)) & 1) == 1
 }
 
 impl IdSet {
