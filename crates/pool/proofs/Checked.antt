@@ -6,8 +6,6 @@ use mathlib.Core.List.{List}
 use Prim.Native.Nat.{ℕ, _-_, _≤_, _<_}
 use lib.ListN.{length}
 use native.Mathlib.Omega.{arith}
-use mir.Syntax.{w64}
-use mir.Val.{Fits}
 use lib.Dec.{eqb, leb, ltb}
 use borrow.Author.Tests.{ltb-false, leb-false, eqb-true}
 use Rattle.basics.proofs.Picks.{when-back, unless-back}
@@ -100,9 +98,6 @@ buffer p id place h =
     let a = when-back (ltb id 1) fine (refuse 9 place) _ never h in
     let b = when-back (ltb (p .b) id) fine (refuse 9 place) _ never (a .1) in
     record { some = ltb-false _ _ (a .0); most = ltb-false _ _ (b .0) }
-
-pub buffer-by : (v : Verdict) (p : Pool) (id place : ℕ) → verdict v ≡ idCheck p id place → v ≡ Fine → Buffer p id
-buffer-by v p id place e q = buffer p id place (fine-by v e q)
 
 -- ---- what the calls' own checks leave
 
@@ -202,12 +197,6 @@ module _ (v : Verdict) (p : Pool) (q : v ≡ Fine) where
   pub post-at : (w : WorkerNo) (g : GuardNo) (b : BufferId) → verdict v ≡ postCheck p w g b → w .0 - 1 < 8
   post-at w g b e = index (posts p w g b (fine-by v e q) .begun .worker)
 
-  pub give-some : (w : WorkerNo) (ids : List ℕ) → verdict v ≡ giveUpCheck p w ids → 1 ≤ w .0
-  give-some w ids e = gives-up p w ids (fine-by v e q) .begun .worker .some
-
-  pub give-at : (w : WorkerNo) (ids : List ℕ) → verdict v ≡ giveUpCheck p w ids → w .0 - 1 < 8
-  give-at w ids e = index (gives-up p w ids (fine-by v e q) .begun .worker)
-
   pub take-some : (b : BufferId) → verdict v ≡ takeCheck p b → 1 ≤ b .0
   take-some b e = takes p b (fine-by v e q) .buffer .some
 
@@ -225,13 +214,4 @@ pub guard-at : (v u : Verdict) (p : Pool) (w : WorkerNo) (g : GuardNo) → verdi
     → u ≡ Fine → g .0 < 32
 guard-at v u p w g e q f r = slot-index (begun p w (fine-by v e q) .worker) (employed p w g (fine-by u f r))
 
-pub id-some : (v : Verdict) (p : Pool) (id place : ℕ) → verdict v ≡ idCheck p id place → v ≡ Fine → 1 ≤ id
-id-some v p id place e q = buffer p id place (fine-by v e q) .some
-
-pub id-below : (v : Verdict) (p : Pool) (id place : ℕ) → verdict v ≡ idCheck p id place → v ≡ Fine → p .b ≤ 256 → id - 1 < 256
-id-below v p id place e q h = let b = buffer p id place (fine-by v e q) in omega arith
-
-pub id-fits : (v : Verdict) (p : Pool) (id place : ℕ) → verdict v ≡ idCheck p id place → v ≡ Fine → p .b ≤ 256 → Fits w64 (id - 1)
-id-fits v p id place e q h = record { fits = omega (arith, id-below v p id place e q h) }
-
-pub ruleset indices = (guard-at, id-some, id-below, id-fits, begin-some, begin-at, begin-guards, begin-buffers, fire-some, fire-at, fire-guard, post-some, post-at, give-some, give-at, ask-some, ask-at)
+pub ruleset indices = (guard-at, begin-some, begin-at, begin-guards, begin-buffers, fire-some, fire-at, fire-guard, post-some, post-at, ask-some, ask-at)

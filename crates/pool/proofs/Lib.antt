@@ -9,7 +9,7 @@ pub mod Standing
 -- for the code: soundness, begins, questions
 pub mod Labels
 pub mod Scans
-pub mod Lists
+pub mod GiveUps
 pub mod Audit
 -- for the code: the advance
 pub mod Handed

@@ -54,6 +54,23 @@ pub after-refuse : (v : Verdict) (r : Refusal) (place : ℕ) (a : Check) (p : Po
 unfolding afterCheck
 after-refuse v r place a p d e q = rw (refuse-by v e r place q)
 
+-- the same of two checks, of which the first that refuses counts
+module _ (v : Verdict) (a b : Check) (p : Pool) (d : Told) (e : verdict v ≡ a) where
+  pub after-first : (r : Refusal) (place : ℕ) → v ≡ Fault r place → answering (refused (numberOf r) place) p ≡ afterCheck (first a b) p d
+  unfolding first afterCheck
+  after-first r place q = rw (refuse-by v e r place q)
+
+  module _ (u : Verdict) (h : verdict u ≡ b) (q : v ≡ Fine) where
+    both : b ≡ first a b
+    unfolding first
+    both = rw (fine-by v e q)
+
+    pub after-second : (r : Refusal) (place : ℕ) → u ≡ Fault r place → answering (refused (numberOf r) place) p ≡ afterCheck (first a b) p d
+    after-second r place t = after-refuse u r place (first a b) p d (h ∙ both) t
+
+    pub after-both : (x : Told) → u ≡ Fine → x ≡ d → x ≡ afterCheck (first a b) p d
+    after-both x t = after-fine u x (first a b) p d (h ∙ both) t
+
 pub answer-fine : (v : Verdict) (x : Said) (a : Check) (s : Said) → verdict v ≡ a → v ≡ Fine → x ≡ s → x ≡ answerAfter a s
 unfolding answerAfter
 answer-fine v x a s e q h = rw (fine-by v e q) h
@@ -64,7 +81,7 @@ unfolding answerAfter
 answer-refuse v r place a s e q = rw (refuse-by v e r place q)
 
 -- the check of an id alone
-id-first : (p : Pool) (id place : ℕ) (b : Check)
+pub id-first : (p : Pool) (id place : ℕ) (b : Check)
     → first (idCheck p id place) b ≡ when (ltb id 1) (refuse 9 place) (when (ltb (p .b) id) (refuse 9 place) b)
 unfolding first idCheck when
 id-first p id place b = go (ltb id 1) (ltb (p .b) id)

@@ -4,3 +4,4 @@ pub mod Ready
 pub mod Scans
 pub mod Searches
 pub mod Reach
+pub mod Buffers

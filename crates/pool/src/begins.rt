@@ -1,13 +1,5 @@
 // The begins. Each hands back the record as it then is; a refused one hands back the record that came in.
 ghost use mathlib.Core.Path.{_≡_};
-ghost use mathlib.Core.Bool.{_&&_};
-ghost use Prim.Native.Nat.{suc, _<_};
-ghost use lib.Dec.{eqb};
-ghost use lib.ListN.{length, getD};
-ghost use Rattle.basics.specs.Pick.{when};
-ghost use Rattle.basics.specs.Below.{table};
-ghost use Rattle.basics.specs.Among.{among};
-ghost use Rattle.idset.specs.Members.{isId, setOf};
 ghost use Rattle.pool.specs.Answers.{told};
 ghost use Rattle.pool.specs.Begins.{hireOf, fireOf, postOf, giveUpOf, takeOf, askOf};
 use crate::Answer;
@@ -18,7 +10,8 @@ use crate::Pool;
 use crate::Verdict;
 use crate::WorkerNo;
 use crate::checks::take_verdict;
-use idset::IdSet;
+use crate::lists::leaving;
+use crate::lists::list_check;
 
 impl Pool {
     pub fn hire(mut self, w: WorkerNo) -> Outcome
@@ -92,7 +85,15 @@ impl Pool {
     pub fn give_up(mut self, w: WorkerNo, ids: &[u32]) -> Outcome
         ensures { λ r. ⌜ told r ≡ giveUpOf self w (now (ids .entry)) ⌝ }
     {
-        let check = self.give_up_check(w, ids);
+        let begin = self.begin_check(w);
+        if let Verdict::Fault(refusal, place) = begin {
+            return Outcome {
+                answer: Answer::Refused(refusal, place),
+                pool: self,
+            };
+        }
+        let list = list_check(self.b, &self.states, ids);
+        let check = list.check;
         if let Verdict::Fault(refusal, place) = check {
             return Outcome {
                 answer: Answer::Refused(refusal, place),
@@ -100,8 +101,8 @@ impl Pool {
             };
         }
         leaving(&mut self.states, ids);
-        let set = collected(ids);
         let k = (w.0 - 1) as usize;
+        let set = list.met;
         self.sets[k] = set;
         let mut me = self.workers[k];
         me.i = 0;
@@ -155,39 +156,4 @@ impl Pool {
             }
         }
     }
-}
-
-// Buffer id is leaving from now on; one that is none changes nothing.
-fn left(states: &mut [u8; 256], id: u32)
-    ensures { λ _. ⌜ now (states .exit) ≡ table (length (now (states .entry))) (λ k. when (isId (suc k) && eqb id (suc k)) 2 (getD (now (states .entry)) k 0)) ⌝ }
-{
-    if id < 1 {
-        return;
-    }
-    if 256 < id {
-        return;
-    }
-    let at = (id - 1) as usize;
-    states[at] = 2;
-}
-
-// The list's buffers are leaving from now on.
-fn leaving(states: &mut [u8; 256], ids: &[u32])
-    ensures { λ _. ⌜ now (states .exit) ≡ table (length (now (states .entry))) (λ k. when (isId (suc k) && among (now (ids .entry)) (suc k)) 2 (getD (now (states .entry)) k 0)) ⌝ }
-{
-    for j in 0..ids.len() {
-        left(states, ids[j]);
-    }
-}
-
-// The list's ids as a set.
-fn collected(ids: &[u32]) -> IdSet
-    ensures { λ r. ⌜ r ≡ setOf (among (now (ids .entry))) ⌝ }
-{
-    let mut set = IdSet::empty();
-    for k in 0..ids.len() {
-        let next = set.with(ids[k]);
-        set = next;
-    }
-    set
 }

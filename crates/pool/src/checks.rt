@@ -2,11 +2,10 @@
 ghost use mathlib.Core.Path.{_≡_};
 ghost use Rattle.basics.specs.Pick.{when, unless};
 ghost use Rattle.pool.specs.Answers.{verdict, fine, refuse, first};
-ghost use Prim.Native.Nat.{_≤_, _<_, _-_};
+ghost use Prim.Native.Nat.{_≤_, _-_};
 ghost use lib.Dec.{eqb, ltb};
-ghost use lib.ListN.{length, getD};
-ghost use Rattle.basics.specs.Among.{amongFirst};
-ghost use Rattle.pool.specs.Checks.{beginCheck, guardCheck, idCheck, fireCheck, postCheck, entryCheck, listCheck, giveUpCheck, askCheck};
+ghost use lib.ListN.{getD};
+ghost use Rattle.pool.specs.Checks.{beginCheck, guardCheck, idCheck, fireCheck, postCheck, askCheck};
 use crate::BufferId;
 use crate::GuardNo;
 use crate::Pool;
@@ -109,14 +108,14 @@ impl Pool {
     }
 
     // 9.
-    fn id_check(self, id: u32, place: usize) -> Verdict
-        ensures { λ r. ⌜ verdict r ≡ idCheck self id place ⌝ }
+    fn id_check(self, id: u32) -> Verdict
+        ensures { λ r. ⌜ verdict r ≡ idCheck self id 0 ⌝ }
     {
         if id < 1 {
-            return Verdict::Fault(Refusal::NoSuchBuffer, place);
+            return Verdict::Fault(Refusal::NoSuchBuffer, 0);
         }
         if self.b < id {
-            return Verdict::Fault(Refusal::NoSuchBuffer, place);
+            return Verdict::Fault(Refusal::NoSuchBuffer, 0);
         }
         Verdict::Fine
     }
@@ -170,73 +169,7 @@ impl Pool {
         let begin = self.begin_check(w);
         match begin {
             Verdict::Fault(refusal, place) => Verdict::Fault(refusal, place),
-            Verdict::Fine => self.id_check(b.0, 0),
+            Verdict::Fine => self.id_check(b.0),
         }
     }
-
-    // Entry k of a give-up list: 9, 10, 11.
-    fn entry_check(self, ids: &[u32], k: usize) -> Verdict
-        requires { ⌜ (self .b ≤ 256) × (k < length (now ids)) ⌝ }
-        ensures { λ r. ⌜ verdict r ≡ entryCheck self (now (ids .entry)) k ⌝ }
-    {
-        let id = ids[k];
-        let known = self.id_check(id, k);
-        match known {
-            Verdict::Fault(refusal, place) => Verdict::Fault(refusal, place),
-            Verdict::Fine => {
-                let again = repeated(ids, k);
-                if again {
-                    return Verdict::Fault(Refusal::BufferRepeated, k);
-                }
-                let at = (id - 1) as usize;
-                if self.states[at] == 1 {
-                    Verdict::Fine
-                } else {
-                    Verdict::Fault(Refusal::BufferInWrongState, k)
-                }
-            }
-        }
-    }
-
-    // The first entry at fault decides.
-    fn list_check(self, ids: &[u32]) -> Verdict
-        requires { ⌜ self .b ≤ 256 ⌝ }
-        ensures { λ r. ⌜ verdict r ≡ listCheck self (now (ids .entry)) (length (now (ids .entry))) ⌝ }
-    {
-        let mut k: usize = 0;
-        while k < ids.len() {
-            let entry = self.entry_check(ids, k);
-            match entry {
-                Verdict::Fault(refusal, place) => {
-                    return Verdict::Fault(refusal, place);
-                }
-                Verdict::Fine => {}
-            }
-            k += 1;
-        }
-        Verdict::Fine
-    }
-
-    pub(crate) fn give_up_check(self, w: WorkerNo, ids: &[u32]) -> Verdict
-        ensures { λ r. ⌜ verdict r ≡ giveUpCheck self w (now (ids .entry)) ⌝ }
-    {
-        let begin = self.begin_check(w);
-        match begin {
-            Verdict::Fault(refusal, place) => Verdict::Fault(refusal, place),
-            Verdict::Fine => self.list_check(ids),
-        }
-    }
-}
-
-// Whether an earlier entry equals entry k.
-fn repeated(ids: &[u32], k: usize) -> bool
-    requires { ⌜ k < length (now ids) ⌝ }
-    ensures { λ r. ⌜ r ≡ amongFirst (now (ids .entry)) k (getD (now (ids .entry)) k 0) ⌝ }
-{
-    let id = ids[k];
-    let mut found = false;
-    for j in 0..k {
-        found = found | (ids[j] == id);
-    }
-    found
 }

@@ -8,6 +8,7 @@ mod broken;
 mod checks;
 mod handback;
 mod lines;
+mod lists;
 mod make;
 mod questions;
 mod sound;
@@ -110,4 +111,10 @@ struct Moved {
 pub enum Verdict {
     Fine,
     Fault(Refusal, usize),
+}
+
+// What the check of a give-up list found and, where that is nothing, the list's ids as a set.
+struct Judged {
+    check: Verdict,
+    met: IdSet,
 }

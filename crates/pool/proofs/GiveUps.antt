@@ -1,28 +1,61 @@
--- A give-up list entry by entry: what the loops over it make. Assumes nothing.
+-- A give-up list entry by entry: what the walks over it find and make. Assumes nothing.
 use mathlib.Core.Path.{_≡_, refl, sym, ap, ap₂, _∙_}
-use mathlib.Core.Bool.{Bool, true, false, _&&_, _||_, and-false, or-comm}
+use mathlib.Core.Bool.{Bool, true, false, _&&_, _||_, and-false}
 use mathlib.Core.List.{List}
 use Prim.Native.Nat.{ℕ, suc, _+_, _-_, _≤_, _<_}
 use native.Mathlib.Decide.{ℕ-discrete}
 use native.Mathlib.Omega.{arith}
 use native.Mathlib.Numerals.{add-one}
-use lib.Dec.{eqb}
+use lib.Dec.{eqb, ltb}
 use lib.ListN.{length, getD, set, length-set}
 use lib.Seq.{getD-set-same, getD-set-other}
-use borrow.Author.Tests.{eq-eqb, ne-eqb, eqb-true}
-use Rattle.basics.specs.Pick.{when}
+use borrow.Author.Tests.{eq-eqb, ne-eqb, eqb-true, ltb-false}
+use Rattle.basics.specs.Pick.{when, unless}
 use Rattle.basics.specs.Below.{anyBelow, table}
 use Rattle.basics.specs.Among.{amongFirst, among}
-use Rattle.basics.proofs.Truth.{and-left, and-right, is-false, eqb-same}
+use Rattle.basics.proofs.Truth.{and-left, and-right, is-false}
 use Rattle.basics.proofs.Table.{table-at, table-is, table-length, table-cong}
 use Rattle.idset.specs.declared.IdSet.{IdSet}
-use Rattle.idset.specs.Members.{isId, memberOf, setOf, noIds, withOf}
-use Rattle.idset.proofs.Members.{id-true, member-setOf, setOf-cong}
+use Rattle.idset.specs.Members.{isId, memberOf, setOf}
+use Rattle.idset.proofs.Members.{id-true}
+use Rattle.idset.proofs.Marking.{met-before}
 use Rattle.pool.specs.declared.Pool.{Pool}
 use Rattle.worker.specs.Registers.{to, withI}
-use Rattle.pool.specs.Answers.{answering, accepted}
+use Rattle.pool.specs.Answers.{Check, fine, refuse, answering, accepted}
 use Rattle.pool.specs.Record.{stateOf, workerAt, withStates, withWorker, withSet}
+use Rattle.pool.specs.Checks.{idCheck, entryCheck, listCheck}
 use Rattle.pool.specs.Begins.{givingUp}
+use Rattle.pool.specs.ForProofs.Buffers.{buffersAlone, entryBy}
+use Rattle.pool.proofs.Told.{id-first}
+
+-- ---- the walk that judges
+
+-- entry k, of which the marks say whether an earlier one equals it
+pub entry-judged : (count : ℕ) (states ids : List ℕ) (k : ℕ) {s : IdSet} {again : Bool} {c : Check} → count ≤ 256 → s ≡ setOf (amongFirst ids k)
+    → again ≡ memberOf s (getD ids k 0) → c ≡ entryBy count states (getD ids k 0) again k → c ≡ entryCheck (buffersAlone count states) ids k
+unfolding entryCheck when
+entry-judged count states ids k {s} {again} {c} few e h q =
+    q ∙ under (ltb id 1) refl (ltb count id) refl ∙ sym (id-first (buffersAlone count states) id k (rest (amongFirst ids k id)))
+  where
+    id : ℕ
+    id = getD ids k 0
+
+    rest : Bool → Check
+    rest t = when t (refuse 10 k) (unless (eqb (getD states (id - 1) 0) 1) (refuse 11 k) fine)
+
+    under : (low : Bool) → ltb id 1 ≡ low → (high : Bool) → ltb count id ≡ high
+        → when low (refuse 9 k) (when high (refuse 9 k) (rest again)) ≡ when low (refuse 9 k) (when high (refuse 9 k) (rest (amongFirst ids k id)))
+    under true low high up = refl
+    under false low true up = refl
+    under false low false up =
+        let lo = ltb-false id 1 low in
+        let hi = ltb-false count id up in
+        ap rest (h ∙ met-before ids k e id (id-true id lo (omega arith)))
+
+-- nothing else of the record is read
+pub list-judged : (p : Pool) (ids : List ℕ) (n : ℕ) → listCheck (buffersAlone (p .b) (p .states)) ids n ≡ listCheck p ids n
+unfolding entryCheck idCheck
+list-judged p ids n = refl
 
 -- ---- one buffer leaves
 
@@ -72,21 +105,6 @@ left-first-again st ids j {after} {next} e h =
     ∙ table-cong (length st) (λ k. when (isId (suc k) && eqb (getD ids j 0) (suc k)) 2 (getD after k 0)) (λ k. when (isId (suc k) && amongFirst ids (j + 1) (suc k)) 2 (getD st k 0)) (λ k l.
     rw (e, add-one, table-at (length st) now k 0 l)
     (nested (isId (suc k)) (amongFirst ids j (suc k)) (eqb (getD ids j 0) (suc k)) 2 (getD st k 0)))
-
--- ---- the first j as a set
-
-pub collected-none : (ids : List ℕ) {s : IdSet} → s ≡ noIds → s ≡ setOf (amongFirst ids 0)
-unfolding noIds anyBelow
-collected-none ids e = e
-
-pub collected-again : (ids : List ℕ) (j : ℕ) {s next : IdSet} → s ≡ setOf (amongFirst ids j) → next ≡ withOf s (getD ids j 0)
-    → next ≡ setOf (amongFirst ids (j + 1))
-unfolding withOf anyBelow
-collected-again ids j {s} {next} e h =
-    let id = getD ids j 0 in
-    h ∙ setOf-cong {p = λ b. eqb b id || memberOf s b} {q = amongFirst ids (j + 1)} (λ b eb.
-    ap₂ _||_ (eqb-same b id id b sym sym) (ap (λ (t : IdSet). memberOf t b) e ∙ member-setOf (amongFirst ids j) b ∙ ap (λ (t : Bool). t && amongFirst ids j b) eb)
-    ∙ or-comm (eqb id b) (amongFirst ids j b) ∙ ap (λ (n : ℕ). amongFirst ids n b) (sym (add-one j)))
 
 -- ---- the record of an accepted give-up, by what the loops made
 

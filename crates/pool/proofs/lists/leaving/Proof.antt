@@ -1,12 +1,12 @@
--- `pool::begins::leaving` meets its contract. Assumes nothing.
+-- `pool::lists::leaving` meets its contract. Assumes nothing.
 use borrow.Author.Needs.{needs}
 use Prim.Native.Nat.{_≤_, _-_}
 use mathlib.Core.Path.{_≡_, ap, _∙_}
 use native.Mathlib.Omega.{arith}
 use lib.ListN.{length}
-use Rattle.pool.proofs.Lists.{leftFirst, left-first-none, left-first-again}
-use Rattle.pool.proofs.begins.leaving.Statement.{statement}
-use Rattle.pool.proofs.begins.leaving.Tie as tie
+use Rattle.pool.proofs.GiveUps.{leftFirst, left-first-none, left-first-again}
+use Rattle.pool.proofs.lists.leaving.Statement.{statement}
+use Rattle.pool.proofs.lists.leaving.Tie as tie
 
 abbrev Inv-loop : tie.InvT-loop
 Inv-loop states₀ ids j₀ j-end states j = (j-end ≡ length ids) × (j ≤ j-end) × (states ≡ leftFirst states₀ ids j)

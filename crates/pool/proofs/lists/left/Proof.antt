@@ -1,9 +1,9 @@
--- `pool::begins::left` meets its contract. Assumes nothing.
+-- `pool::lists::left` meets its contract. Assumes nothing.
 use Rattle.idset.proofs.Members.{too-low, too-high}
-use Rattle.pool.proofs.Lists.{left-none, left-some}
+use Rattle.pool.proofs.GiveUps.{left-none, left-some}
 use borrow.Author.Needs.{needs}
-use Rattle.pool.proofs.begins.left.Statement.{statement}
-use Rattle.pool.proofs.begins.left.Tie as tie
+use Rattle.pool.proofs.lists.left.Statement.{statement}
+use Rattle.pool.proofs.lists.left.Tie as tie
 
 returns : tie.Need-returns
 returns c = left-none _ _ (too-low (c .if1 .taken))
