@@ -272,27 +272,19 @@ struct answer pool_ask(const struct pool *p, uint32_t worker, uint32_t buffer) {
     return says(p->states[buffer - 1] == IN_SERVICE ? YES : NO, 0);
 }
 
-static bool repeated(const uint32_t *ids, size_t k) {
-    bool found = false;
-    for (size_t j = 0; j < k; j++) found |= ids[j] == ids[k];
-    return found;
-}
-
 struct answer pool_give_up(struct pool *p, uint32_t worker, const uint32_t *ids, size_t count) {
     struct fault found = begin_fault(p, worker);
     if (found.number) return refuses(found.number, found.place);
+    struct id_set met = {{0}};
     for (size_t k = 0; k < count; k++) {
         if (ids[k] < 1 || p->b < ids[k]) return refuses(NO_SUCH_BUFFER, k);
-        if (repeated(ids, k)) return refuses(BUFFER_REPEATED, k);
+        if (set_has(&met, ids[k])) return refuses(BUFFER_REPEATED, k);
         if (p->states[ids[k] - 1] != IN_SERVICE) return refuses(BUFFER_IN_WRONG_STATE, k);
+        set_add(&met, ids[k]);
     }
+    for (size_t k = 0; k < count; k++) p->states[ids[k] - 1] = LEAVING;
+    p->sets[worker - 1] = met;
     struct worker *me = &p->workers[worker - 1];
-    struct id_set *set = &p->sets[worker - 1];
-    *set = (struct id_set){0};
-    for (size_t k = 0; k < count; k++) {
-        p->states[ids[k] - 1] = LEAVING;
-        set_add(set, ids[k]);
-    }
     me->i = 0;
     me->label = 12;
     return says(ACCEPTED, 0);
