@@ -111,6 +111,17 @@ int main(void) {
         {"16 buffers", 1, TWO(hand_back), .a = 16},
         {"200 buffers", 1, TWO(hand_back), .a = 200},
     };
+    const struct row lists[] = {
+        {"1 buffer", 1, THREE(list), .a = 1, .b = 1},
+        {"16 buffers", 1, THREE(list), .a = 16, .b = 16},
+        {"64 buffers", 1, THREE(list), .a = 64, .b = 64},
+        {"200 buffers", 1, THREE(list), .a = 200, .b = 200},
+        {"256 buffers", 1, THREE(list), .a = 256, .b = 256},
+        {"256 entries, refused at the last", 1, THREE(list), .a = 256, .b = 255},
+        {"10,000 entries, refused at the first", 1, THREE(list), .a = 10000, .b = 0},
+        // As late as can be: there are 256 buffers.
+        {"10,000 entries, refused at the 257th", 1, THREE(list), .a = 10000, .b = 256},
+    };
     const struct row schedules[] = {
         {"a schedule of steps, 23 of 33 calls advances", 99001, ONE(played_steps)},
         {"a schedule of refusals", 99901, ONE(played_refusals)},
@@ -125,6 +136,8 @@ int main(void) {
     for (size_t k = 0; k < sizeof buffers / sizeof *buffers; k++) measure(&buffers[k]);
     heading("the advance at label 32, by the size of the set");
     for (size_t k = 0; k < sizeof sets / sizeof *sets; k++) measure(&sets[k]);
+    heading("a give-up alone, by the length of its list");
+    for (size_t k = 0; k < sizeof lists / sizeof *lists; k++) measure(&lists[k]);
     heading("a call of a schedule: read, played, printed");
     for (size_t k = 0; k < sizeof schedules / sizeof *schedules; k++) measure(&schedules[k]);
     heading("the record handed in and out, and nothing else done");

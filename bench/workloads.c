@@ -112,6 +112,25 @@ uint64_t baseline_scan(uint64_t times, uint32_t g, uint32_t b) {
     return give_up(&p, times, 0, 5 * g + 2, 1);
 }
 
+// What a give-up of worker 1 and its end change.
+struct kept {
+    struct worker me;
+    struct id_set set;
+    uint8_t states[BUFFERS];
+};
+
+static struct kept kept_of(const struct pool *p) {
+    struct kept kept = {.me = p->workers[0], .set = p->sets[0]};
+    memcpy(kept.states, p->states, sizeof kept.states);
+    return kept;
+}
+
+static void put_back(struct pool *p, const struct kept *kept) {
+    p->workers[0] = kept->me;
+    p->sets[0] = kept->set;
+    memcpy(p->states, kept->states, sizeof kept->states);
+}
+
 uint64_t baseline_hand_back(uint64_t times, size_t count) {
     struct pool p;
     pool_make(&p, 8, 32, 256);
@@ -120,19 +139,38 @@ uint64_t baseline_hand_back(uint64_t times, size_t count) {
         p.sets[0].words[j / 64] |= (uint64_t)1 << j % 64;
     }
     p.workers[0].label = 32;
-    const struct worker me = p.workers[0];
-    const struct id_set set = p.sets[0];
-    uint8_t states[BUFFERS];
-    memcpy(states, p.states, sizeof states);
+    const struct kept kept = kept_of(&p);
     uint32_t list[BUFFERS] = {0};
     uint64_t sum = 0;
     for (uint64_t k = 0; k < times; k++) {
         sum = with_answer(sum, pool_advance(&p, 1, list, BUFFERS));
-        p.workers[0] = me;
-        p.sets[0] = set;
-        memcpy(p.states, states, sizeof states);
+        put_back(&p, &kept);
     }
     return with_list(with_record(sum, &p), list, BUFFERS);
+}
+
+enum { LONGEST_LIST = 10000 };
+
+// Entry j of a list. The first 256 are all different, and go through the words of a set again and again.
+static uint32_t entry(uint32_t j) { return j * 37 % BUFFERS + 1; }
+
+// An entry that is refused: an id of no buffer at the first place, that of an earlier entry after it.
+static uint32_t wrong(uint32_t place, uint32_t turn) { return place == 0 ? turn * (BUFFERS + 1) : entry(turn); }
+
+uint64_t baseline_list(uint64_t times, uint32_t count, uint32_t good) {
+    uint32_t ids[LONGEST_LIST];
+    for (uint32_t j = 0; j < LONGEST_LIST; j++) ids[j] = entry(j);
+    struct pool p;
+    pool_make(&p, 8, 32, 256);
+    memset(p.states, IN_SERVICE, sizeof p.states);
+    const struct kept kept = kept_of(&p);
+    uint64_t sum = 0;
+    for (uint64_t k = 0; k < times; k++) {
+        ids[good] = wrong(good, k % 2);
+        sum = with_answer(sum, pool_give_up(&p, 1, ids, count));
+        if (count == good) put_back(&p, &kept);
+    }
+    return with_record(sum, &p);
 }
 
 uint64_t baseline_refused(uint64_t times, size_t rule) {

@@ -5,6 +5,7 @@ mod checksum;
 mod contention;
 mod guards;
 mod handed;
+mod lists;
 mod refused;
 mod schedules;
 mod staff;
