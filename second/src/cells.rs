@@ -1,8 +1,9 @@
 //! The cells of the coverage table.
 
 use crate::call::WORDS;
-use crate::cases::{ANY_RECORD, KINDS};
+use crate::cases::{Kind, Mix, ANY_RECORD, KINDS};
 use crate::edges;
+use crate::lists;
 use crate::order;
 use crate::sound::{NOT_12_OR_32, NO_LABELS, RULES};
 
@@ -143,12 +144,6 @@ const REFUSED: [(&str, &[&str]); 9] = [
     ("size", &["3"]),
 ];
 
-const PLACES: [(u32, &[&str]); 3] = [
-    (9, &["0", "1", "2", "3 to 7", "8 or more"]),
-    (10, &["1", "2", "3 to 7", "8 or more"]),
-    (11, &["0", "1", "2", "3 to 7", "8 or more"]),
-];
-
 /// The other refusals that apply to an unsound record.
 const UNSOUND_BEFORE: [(&str, &[u32]); 8] = [
     ("hire", &[3, 4]),
@@ -229,13 +224,7 @@ pub fn all() -> Vec<String> {
     for (word, refusals) in REFUSED {
         all.extend(refusals.iter().map(|r| format!("{word}: refused {r}")));
     }
-    for (number, places) in PLACES {
-        all.extend(
-            places
-                .iter()
-                .map(|p| format!("give: {number} at place {p}")),
-        );
-    }
+    all.extend(lists::place_cells(0));
     for (word, others) in UNSOUND_BEFORE {
         all.extend(others.iter().map(|n| format!("{word}: unsound before {n}")));
     }
@@ -252,5 +241,22 @@ pub fn all() -> Vec<String> {
     all.extend(labels.map(|n| format!("unsound: i is G at label {n}")));
     all.extend(edges::NAMES.iter().map(|name| format!("edge: {name}")));
     all.extend(LAST.iter().map(|name| name.to_string()));
+    all.extend(lists::long_cells());
     all
+}
+
+/// The names of the cells that long give-up lists are for.
+fn long_lists() -> Vec<String> {
+    let mut names = vec![format!("kind: {}", Kind::LongLists.name())];
+    names.extend(lists::place_cells(lists::FAR));
+    names.extend(lists::long_cells());
+    names
+}
+
+/// The names of the cells that these cases are to fill.
+pub fn of(mix: Mix) -> Vec<String> {
+    match mix {
+        Mix::Every => all(),
+        Mix::LongLists => long_lists(),
+    }
 }

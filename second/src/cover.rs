@@ -2,9 +2,10 @@
 
 use crate::call::{Answer, Call};
 use crate::calls::Outcome;
-use crate::cases::{Kind, ANY_RECORD};
+use crate::cases::{Kind, Mix, ANY_RECORD};
 use crate::cells::{self, LAST, MADE};
 use crate::edges;
+use crate::lists;
 use crate::order;
 use crate::record::{Record, IDLE};
 use crate::sound::{self, Fault, Rule, NOT_12_OR_32, NO_LABELS, RULES};
@@ -17,8 +18,8 @@ pub struct Cover {
 }
 
 impl Cover {
-    pub fn new() -> Cover {
-        let order = cells::all();
+    pub fn new(mix: Mix) -> Cover {
+        let order = cells::of(mix);
         let counts = order.iter().map(|name| (name.clone(), 0)).collect();
         Cover { order, counts }
     }
@@ -43,6 +44,9 @@ impl Cover {
         }
         if let (Call::Give { .. }, true) = (call, list.len() > before.b as usize) {
             self.hit("give: list longer than B".to_string());
+        }
+        for name in lists::of(before, list, call, outcome) {
+            self.hit(name);
         }
         if matches!(call, Call::Make { .. }) {
             return;
@@ -103,16 +107,6 @@ impl Cover {
         };
         let comma = if why.is_empty() { "" } else { ", " };
         self.hit(format!("{word}: refused {}{comma}{why}", first.number));
-        if let (Call::Give { .. }, 9..=11) = (call, first.number) {
-            let place = match first.place {
-                0 => "0",
-                1 => "1",
-                2 => "2",
-                3..=7 => "3 to 7",
-                _ => "8 or more",
-            };
-            self.hit(format!("give: {} at place {place}", first.number));
-        }
         let mut others: Vec<u32> = outcome.refusals.iter().map(|r| r.number).collect();
         others.sort_unstable();
         others.dedup();
@@ -185,10 +179,11 @@ impl Cover {
         empty.map(String::as_str).collect()
     }
 
-    /// The cells met that the table does not list.
+    /// The cells met that no table lists.
     #[cfg(test)]
     pub fn unlisted(&self) -> Vec<&str> {
-        let names = self.counts.keys().filter(|name| !self.order.contains(name));
+        let all = cells::all();
+        let names = self.counts.keys().filter(|name| !all.contains(name));
         names.map(String::as_str).collect()
     }
 
@@ -210,16 +205,27 @@ fn only_rule(faults: &[Fault]) -> Option<Rule> {
 
 #[cfg(test)]
 mod tests {
-    use crate::cases;
+    use crate::cases::{self, Mix};
     use crate::stage::{Stage, Way};
+
+    fn fills_the_table(seed: u64, calls: u64, mix: Mix) {
+        let mut stage = Stage::new(calls, mix, Way::Table);
+        assert!(cases::play(seed, &mut stage).is_ok());
+        assert_eq!(stage.cover.unlisted(), [""; 0]);
+        assert_eq!(stage.cover.empty(), [""; 0]);
+    }
 
     #[test]
     fn the_table_lists_every_cell_met_and_none_is_empty() {
         for seed in 1..=3 {
-            let mut stage = Stage::new(20_000, Way::Table);
-            assert!(cases::play(seed, &mut stage).is_ok());
-            assert_eq!(stage.cover.unlisted(), [""; 0]);
-            assert_eq!(stage.cover.empty(), [""; 0]);
+            fills_the_table(seed, 20_000, Mix::Every);
+        }
+    }
+
+    #[test]
+    fn the_first_long_lists_fill_their_cells() {
+        for seed in 1..=50 {
+            fills_the_table(seed, 130, Mix::LongLists);
         }
     }
 }

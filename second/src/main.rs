@@ -7,6 +7,7 @@ mod cells;
 mod chance;
 mod cover;
 mod edges;
+mod lists;
 mod order;
 mod play;
 mod record;
@@ -22,25 +23,32 @@ mod paper;
 #[cfg(test)]
 mod unsound;
 
+use cases::Mix;
 use stage::{Go, Stage, Stop, Way};
 use std::io::{self, BufRead, BufReader, BufWriter, Read, Write};
 use std::process::ExitCode;
 
-const USAGE: &str = "usage: second cases SEED CALLS     writes the lines of the cases
-       second results SEED CALLS   writes the results that must come out
-       second check SEED CALLS     compares the results on standard input
-       second table SEED CALLS     writes the coverage table
-       second answer               writes the results of the lines on standard input
-       second play                 plays the schedule on standard input
+const USAGE: &str = "usage: second cases SEED CALLS [long]     writes the lines of the cases
+       second results SEED CALLS [long]   writes the results that must come out
+       second check SEED CALLS [long]     compares the results on standard input
+       second table SEED CALLS [long]     writes the coverage table
+       second answer                   writes the results of the lines on standard input
+       second play                     plays the schedule on standard input
        second texts SEED COUNT DIR     writes texts of schedules and their transcripts
        second texts-table SEED COUNT   writes the coverage table of those texts
        second texts-stored DIR         writes the texts that the repository keeps
        second texts-long DIR           writes those that it would keep if their transcripts were shorter
+With 'long' every case is a long give-up list, and the table has the cells that these are for.
 ";
 
 fn main() -> ExitCode {
     let arguments: Vec<String> = std::env::args().skip(1).collect();
-    let words: Vec<&str> = arguments.iter().map(String::as_str).collect();
+    let mut words: Vec<&str> = arguments.iter().map(String::as_str).collect();
+    let mut mix = Mix::Every;
+    if let ["cases" | "results" | "check" | "table", _, _, "long"] = words[..] {
+        words.pop();
+        mix = Mix::LongLists;
+    }
     let done = match words[..] {
         ["answer"] => answer(),
         ["play"] => play(),
@@ -52,10 +60,10 @@ fn main() -> ExitCode {
         },
         [command, seed, calls] => match (seed.parse(), calls.parse()) {
             (Ok(seed), Ok(calls)) => match command {
-                "cases" => cases(seed, calls),
-                "results" => results(seed, calls),
-                "check" => check(seed, calls),
-                "table" => table(seed, calls),
+                "cases" => cases(seed, calls, mix),
+                "results" => results(seed, calls, mix),
+                "check" => check(seed, calls, mix),
+                "table" => table(seed, calls, mix),
                 "texts-table" => texts_table(seed, calls),
                 _ => return usage(),
             },
@@ -78,27 +86,27 @@ fn usage() -> ExitCode {
     ExitCode::from(2)
 }
 
-fn cases(seed: u64, calls: u64) -> io::Result<ExitCode> {
+fn cases(seed: u64, calls: u64, mix: Mix) -> io::Result<ExitCode> {
     let mut out = BufWriter::new(io::stdout().lock());
     finish(cases::play(
         seed,
-        &mut Stage::new(calls, Way::Cases(&mut out)),
+        &mut Stage::new(calls, mix, Way::Cases(&mut out)),
     ))?;
     out.flush()?;
     Ok(ExitCode::SUCCESS)
 }
 
-fn results(seed: u64, calls: u64) -> io::Result<ExitCode> {
+fn results(seed: u64, calls: u64, mix: Mix) -> io::Result<ExitCode> {
     let mut out = BufWriter::new(io::stdout().lock());
-    let mut stage = Stage::new(calls, Way::Results(&mut out));
+    let mut stage = Stage::new(calls, mix, Way::Results(&mut out));
     finish(cases::play(seed, &mut stage).and_then(|()| stage.close()))?;
     out.flush()?;
     Ok(ExitCode::SUCCESS)
 }
 
-fn check(seed: u64, calls: u64) -> io::Result<ExitCode> {
+fn check(seed: u64, calls: u64, mix: Mix) -> io::Result<ExitCode> {
     let mut input = BufReader::new(io::stdin().lock());
-    let mut stage = Stage::new(calls, Way::Check(&mut input));
+    let mut stage = Stage::new(calls, mix, Way::Check(&mut input));
     let played = cases::play(seed, &mut stage).and_then(|()| stage.close());
     if let Some(report) = finish(played)? {
         say(&report)?;
@@ -108,8 +116,8 @@ fn check(seed: u64, calls: u64) -> io::Result<ExitCode> {
     show(&stage)
 }
 
-fn table(seed: u64, calls: u64) -> io::Result<ExitCode> {
-    let mut stage = Stage::new(calls, Way::Table);
+fn table(seed: u64, calls: u64, mix: Mix) -> io::Result<ExitCode> {
+    let mut stage = Stage::new(calls, mix, Way::Table);
     finish(cases::play(seed, &mut stage))?;
     show(&stage)
 }

@@ -2,7 +2,7 @@
 
 use crate::call::{Answer, Call};
 use crate::calls::{self, Outcome};
-use crate::cases::Kind;
+use crate::cases::{Kind, Mix};
 use crate::cover::Cover;
 use crate::record::Record;
 use crate::text;
@@ -40,6 +40,7 @@ pub struct Stage<'a> {
     pub record: Record,
     pub list: Vec<u32>,
     pub cover: Cover,
+    pub mix: Mix,
     kind: Kind,
     made: u64,
     calls: u64,
@@ -51,11 +52,12 @@ pub struct Stage<'a> {
 const RESULT_LINES: usize = 60;
 
 impl<'a> Stage<'a> {
-    pub fn new(calls: u64, way: Way<'a>) -> Stage<'a> {
+    pub fn new(calls: u64, mix: Mix, way: Way<'a>) -> Stage<'a> {
         Stage {
             record: Record::zero(),
             list: Vec::new(),
-            cover: Cover::new(),
+            cover: Cover::new(mix),
+            mix,
             kind: Kind::Schedules,
             made: 0,
             calls,

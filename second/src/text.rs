@@ -168,7 +168,7 @@ fn set(record: &mut Record, list: &mut Vec<u32>, word: &str, numbers: &[u32]) ->
 #[cfg(test)]
 mod tests {
     use super::*;
-    use crate::cases;
+    use crate::cases::{self, Mix};
     use crate::stage::{Stage, Way};
 
     fn read_all(text: &str) -> Option<(Record, Vec<u32>)> {
@@ -186,7 +186,7 @@ mod tests {
     #[test]
     fn what_is_written_is_read_back() {
         let mut out = Vec::new();
-        let mut stage = Stage::new(3_000, Way::Results(&mut out));
+        let mut stage = Stage::new(3_000, Mix::Every, Way::Results(&mut out));
         assert!(cases::play(4, &mut stage).is_ok());
         let text = String::from_utf8(out).unwrap();
         let mut results = 0;

@@ -55,6 +55,19 @@ fn the_lines_of_the_cases_give_the_results() {
 }
 
 #[test]
+fn long_lists_alone_pass() {
+    let long = |command: &str| second(&[command, "3", "500", "long"], b"");
+    let answers = second(&["answer"], &long("cases").stdout);
+    assert!(answers.stdout == long("results").stdout);
+    let output = second(&["check", "3", "500", "long"], &answers.stdout);
+    assert!(text(&output).starts_with("500 calls compared, no difference\n"));
+    assert_eq!(output.status.code(), Some(0));
+    assert!(text(&long("cases"))
+        .lines()
+        .all(|line| line.split(' ').count() <= 601));
+}
+
+#[test]
 fn a_changed_line_is_found() {
     let mut changed: Vec<String> = results("900").lines().map(String::from).collect();
     let last = changed.iter().rposition(|line| line.starts_with("pool"));
@@ -194,6 +207,8 @@ fn bad_usage() {
         &["texts-table", "1"],
         &["texts-stored"],
         &["cases", "1", "x"],
+        &["cases", "1", "2", "short"],
+        &["texts-table", "1", "2", "long"],
         &["other", "1", "2"],
         &[],
     ] {

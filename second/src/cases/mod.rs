@@ -1,5 +1,6 @@
 //! The kinds of cases, and the order in which they come.
 
+mod aims;
 mod arrange;
 mod build;
 mod damage;
@@ -8,6 +9,7 @@ mod ends;
 mod garbage;
 mod lengths;
 mod limits;
+mod long_lists;
 mod schedules;
 mod several;
 mod unreached;
@@ -32,9 +34,10 @@ pub enum Kind {
     Lengths,
     Ends,
     Versions,
+    LongLists,
 }
 
-pub const KINDS: [Kind; 9] = [
+pub const KINDS: [Kind; 10] = [
     Kind::Schedules,
     Kind::Unreached,
     Kind::Damaged,
@@ -44,6 +47,7 @@ pub const KINDS: [Kind; 9] = [
     Kind::Lengths,
     Kind::Ends,
     Kind::Versions,
+    Kind::LongLists,
 ];
 
 /// The kinds whose records keep to nothing but the types of their fields.
@@ -61,11 +65,12 @@ impl Kind {
             Kind::Lengths => "lengths of lists",
             Kind::Ends => "ends of the sizes",
             Kind::Versions => "versions at the limit",
+            Kind::LongLists => "long give-up lists",
         }
     }
 }
 
-const ROUND: [Kind; 26] = [
+const ROUND: [Kind; 27] = [
     Kind::Unreached,
     Kind::Damaged,
     Kind::Ends,
@@ -92,10 +97,21 @@ const ROUND: [Kind; 26] = [
     Kind::Several,
     Kind::Lengths,
     Kind::Unreached,
+    Kind::LongLists,
 ];
+
+/// All kinds mixed, or long give-up lists alone.
+#[derive(Clone, Copy, Debug, PartialEq, Eq)]
+pub enum Mix {
+    Every,
+    LongLists,
+}
 
 /// Rounds of short cases from one schedule to the next. A record at the limits has a long text and is as rare.
 const ROUNDS: u64 = 9;
+
+/// The long lists have streams of their own, so the other cases are the same with and without them.
+const LONG_LISTS_FROM: u64 = 1 << 63;
 
 pub fn play(seed: u64, stage: &mut Stage) -> Go {
     if stage.is_over() {
@@ -110,7 +126,7 @@ pub fn play(seed: u64, stage: &mut Stage) -> Go {
 /// The lines of one schedule from a fresh pool, with refused calls among them.
 pub fn schedule(chance: &mut Chance, number: usize) -> Vec<String> {
     let mut lines = Vec::new();
-    let mut stage = Stage::new(u64::MAX, Way::Schedule(&mut lines));
+    let mut stage = Stage::new(u64::MAX, Mix::Every, Way::Schedule(&mut lines));
     // Nothing is written to and nothing compared, so nothing can stop it.
     let _ = schedules::run(&mut stage, chance, number);
     lines
@@ -122,6 +138,9 @@ fn endless(seed: u64, stage: &mut Stage) -> Go {
         number: 0,
         of_kind: [0; KINDS.len()],
     };
+    while stage.mix == Mix::LongLists {
+        cases.next(stage, Kind::LongLists)?;
+    }
     for round in 0.. {
         for kind in ROUND {
             cases.next(stage, kind)?;
@@ -134,7 +153,7 @@ fn endless(seed: u64, stage: &mut Stage) -> Go {
     Ok(())
 }
 
-/// How many cases there were, and how many of each kind.
+/// How many cases there were without the long lists, and how many of each kind.
 struct Cases {
     seed: u64,
     number: u64,
@@ -143,10 +162,13 @@ struct Cases {
 
 impl Cases {
     fn next(&mut self, stage: &mut Stage, kind: Kind) -> Go {
-        let mut chance = Chance::of_case(self.seed, self.number);
-        let chance = &mut chance;
         let number = self.of_kind[kind as usize];
-        self.number += 1;
+        let stream = match kind {
+            Kind::LongLists => LONG_LISTS_FROM + number as u64,
+            _ => self.number,
+        };
+        let chance = &mut Chance::of_case(self.seed, stream);
+        self.number += u64::from(kind != Kind::LongLists);
         self.of_kind[kind as usize] += 1;
         stage.open(kind);
         match kind {
@@ -159,6 +181,7 @@ impl Cases {
             Kind::Lengths => lengths::run(stage, chance),
             Kind::Ends => ends::run(stage, chance),
             Kind::Versions => versions::run(stage, chance),
+            Kind::LongLists => long_lists::run(stage, chance, number),
         }
     }
 }
