@@ -1,1 +1,2 @@
 // No code: the definitions and laws that every other crate stands on are in specs/ and proofs/.
+#![tactic(auto)]

@@ -1,5 +1,7 @@
 // The workloads whose cost `tools/bench` prints, on the engine's public calls. Each runs so many times over and gives a checksum of every answer
 // and of the record that it ends with; `bench/workloads.c` is the same on the baseline.
+#![tactic(auto)]
+
 mod buffers;
 mod checksum;
 mod contention;

@@ -1,6 +1,8 @@
 // A first look at damage: records with a number changed by hand, each handed to a call that refuses it, with the reason (request 101). There
 // is one for each rule and each kind of place, and two in which more than one thing is wrong. Each starts from a fresh pool of 2 workers, 4
 // guards and 3 buffers.
+#![tactic(auto)]
+
 use pool::{Answer, BufferId, GuardNo, Outcome, Pool, Verdict, WorkerNo};
 use show::print;
 use show::refusal::print_answer_with_reason;

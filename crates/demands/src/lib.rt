@@ -1,4 +1,6 @@
 // No code to run. Each function promises one of the page's statements (specs/Demands.antt), so the check of this crate is the check that they are shown.
+#![tactic(auto)]
+
 ghost use Rattle.demands.specs.Demands.{Demand1, Demand2, Demand3, Request101, Request102};
 ghost use Rattle.demands.specs.Instances.{Instances};
 

@@ -1,4 +1,6 @@
 // The paper's cases 11 to 14, run: both sides of each edge, with what the engine answered. The pool has 2 workers, 2 guards and 3 buffers.
+#![tactic(auto)]
+
 use pool::{Answer, BufferId, GuardNo, Outcome, Pool, WorkerNo};
 use show::{print, print_answer, print_ids};
 use worker::{Slot, Worker};

@@ -1,4 +1,6 @@
 // One line of a schedule: where it ends, what it says, and its numbers.
+#![tactic(auto)]
+
 mod names;
 mod numbers;
 

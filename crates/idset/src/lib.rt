@@ -1,6 +1,8 @@
 // A set of buffer ids 1 to 256 as four words of marks: bit (id - 1) % 64 of word (id - 1) / 64 is set exactly when id is a member.
 // The contracts say each result by membership: `member_of s b`, and `set_of p`, the set of the ids that p holds of.
 // `larger` and `next_mark` alone go by words.
+#![tactic(auto)]
+
 ghost use Rattle.std.specs.Prelude.{◌≡◌, ◌-◌, ◌^◌, max, ltb};
 ghost use Rattle.idset.specs.Members.{set_in, MarksAlone, member_of, no_ids, with_of, without_of, size_of, next_mark, within_of, larger_of};
 

@@ -1,4 +1,6 @@
 // Plays the schedule on standard input (docs/SCHEDULES.md).
+#![tactic(auto)]
+
 use libc::{STDIN_FILENO, STDOUT_FILENO};
 use player::{play_line, put_read};
 use pool::Pool;

@@ -1,4 +1,6 @@
 // A schedule, played: each line's call made on the pool, and the line that it prints.
+#![tactic(auto)]
+
 ghost use Rattle.std.specs.Prelude.{◌≡◌, [], ◌≤◌, length, drop, replicate};
 ghost use Rattle.tables.specs.Write.{write_at};
 ghost use Rattle.pool.specs.Answers.{told};

@@ -1,6 +1,8 @@
 // The pool engine. One record goes into each call by value and comes back beside the answer, so whoever holds a pool decides which
 // call comes next. Every call takes any record and any arguments; what is wrong with them is answered by a refusal, and then nothing
 // has changed.
+#![tactic(auto)]
+
 mod advance;
 mod answers;
 mod begins;

@@ -1,5 +1,7 @@
 // The line that a call prints, in a lent buffer. Each function takes the place where to write and answers the place after; the buffer
 // has room for what is written.
+#![tactic(auto)]
+
 ghost use Rattle.std.specs.Prelude.{◌≡◌, ◌++◌, ◌+◌, ◌≤◌, ◌<◌, length, take, set};
 ghost use Rattle.tables.specs.Write.{write_at};
 ghost use Rattle.pool.specs.Answers.{said};

@@ -1,4 +1,6 @@
 // A schedule's text: a block holds lines, and a line may open a block. The block reader and the line reader call each other.
+#![tactic(auto)]
+
 ghost use Rattle.std.specs.Prelude.{◌≡◌, ◌+◌, ◌*◌, ◌-◌, ◌≤◌, ◌<◌, ◌&&◌, length, eqb};
 ghost use Rattle.schedule.specs.Text.{block_at, line_at, end_of, is_end, open_after, cap, lower, tell, put, Ready};
 ghost use Rattle.schedule.specs.Read.{line_number, is_make, read_of, answered, filled};

@@ -1,4 +1,6 @@
 // Answers in words on standard output, for the programs that people read.
+#![tactic(auto)]
+
 pub mod refusal;
 mod unsound;
 

@@ -1,4 +1,6 @@
 // A first look at the pool: why a buffer that is given up is not handed back while somebody reads it.
+#![tactic(auto)]
+
 use pool::{Answer, BufferId, GuardNo, Outcome, Pool, WorkerNo};
 use show::{print, print_answer, print_number};
 

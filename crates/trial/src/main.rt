@@ -1,4 +1,6 @@
 // Reads records and calls, makes each call on the engine, and writes what came of it (docs/TRIAL.md).
+#![tactic(auto)]
+
 mod calls;
 mod input;
 mod numbers;

@@ -1,4 +1,6 @@
 // One worker's registers, and its advance at the labels that store to nothing but them.
+#![tactic(auto)]
+
 pub mod lent;
 mod step;
 
