@@ -1,3 +1,2 @@
 -- Laws of the step that callers cite.
 pub mod Laws
-mod Beside

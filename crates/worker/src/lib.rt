@@ -8,14 +8,14 @@ ghost use Rattle.std.specs.Prelude.{◌≡◌};
 ghost use Rattle.worker.specs.Registers.{no_worker};
 
 // A hand-off slot's contents.
-#[derive(Drop)]
+#[derive(Clone, Copy)]
 pub struct Slot {
     pub id: u32,
     pub version: u32,
 }
 
 // A worker's label and registers: plain numbers, so that a damaged record can be written down.
-#[derive(Drop)]
+#[derive(Clone, Copy)]
 pub struct Worker {
     pub label: u32,
     pub i: u32,
@@ -43,7 +43,7 @@ impl Worker {
 }
 
 // Whether the worker's label is one of this crate's, and the worker afterwards.
-#[derive(Drop)]
+#[derive(Clone, Copy)]
 pub struct Stepped {
     pub applies: bool,
     pub worker: Worker,
