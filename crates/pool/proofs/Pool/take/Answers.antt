@@ -12,10 +12,14 @@ unfolding take_of
 returns-in-Fault c = search (begins, take-judged) depth 12
 
 pub overflow_sub-at : goal.overflow_sub-at
-overflow_sub-at c = ?
+overflow_sub-at c =
+    take-some c.take_verdict-check.result c.args.self c.in_default.is c.args.b
+    (take-judged c.take_verdict-check.result c.soundness-sound.result c.args.self c.args.b c.take_verdict-check.ensures c.soundness-sound.ensures)
 
 pub bounds-self-at : goal.bounds-self-at
-bounds-self-at c = ?
+bounds-self-at c =
+    take_at c.take_verdict-check.result c.args.self c.in_default.is c.args.b
+    (take-judged c.take_verdict-check.result c.soundness-sound.result c.args.self c.args.b c.take_verdict-check.ensures c.soundness-sound.ensures)
 
 pub returns : goal.returns
 unfolding take_of
