@@ -13,7 +13,7 @@ use Rattle.idset.specs.declared.IdSet.{IdSet}
 use Rattle.idset.specs.contracts.IdSet.{the_type}
 use Rattle.idset.proofs.Members.{Formed, formed_of}
 
-in_list : (xs : List IdSet) (us : List Val) (i : ℕ) → shadow (each IdSet (row the_type).own xs us)
+in_list : (xs : List IdSet) (us : List Val) (i : ℕ) → shadow (each IdSet (row the_type).own_val xs us)
     → i < length xs → Formed (get_or xs i (record { words = [] }))
 in_list [] us i p h = absurd (not-suc-le-zero h)
 in_list (x ∷ xs) [] i p h = absurd p

@@ -1,7 +1,7 @@
 -- The laws of `member_of` and `set_of`: that a set is its members, and what with and without do to them. Assumes nothing.
 use mathlib.Core.Path.{◌≡◌, refl, sym, ap, ap₂, ◌∙◌, subst}
 use mathlib.Core.Bool.{Bool, true, false, not, cond, ◌&&◌, ◌||◌, and_self_left}
-use mathlib.Core.List.{List, [], ◌∷◌, map}
+use mathlib.Core.List.{List, [], ◌∷◌}
 use Prim.Native.Nat.{ℕ, zero, suc, ◌+◌, ◌-◌, ◌*◌, ◌/◌, ◌%◌, ◌^◌, ◌≤◌, ◌<◌}
 use native.Mathlib.Decide.{ℕ_discrete}
 use native.Mathlib.Omega.{arith}
@@ -13,7 +13,7 @@ use mir.Val.{Val}
 use denote.Array.{each}
 use denote.Shadow.{shadow}
 use denote.Plain.{UInt}
-use borrow.Author.Rules.{length_unmapped, elem_fits_field}
+use borrow.Author.Rules.{elem_Fits}
 use borrow.Author.Tests.{le-leb, leb-true, ne_eqb, eqb-true}
 use Rattle.basics.proofs.Truth.{and_left, and_right, and_cong, and_swap, is_false, eqb_same}
 use Rattle.idset.specs.declared.IdSet.{IdSet}
@@ -59,10 +59,9 @@ pub record Formed (s : IdSet) : Type 0 where
   pub four : length s.words ≡ 4
   pub fit : (i : ℕ) → get_or s.words i 0 < 2 ^ 64
 
--- what owning a set tells, which a need finds by `search formed_of`
-pub formed_of : (s : IdSet) (us : List Val) → length (map (λ (v : ℕ). v) s.words) ≡ 4
-    → shadow (each ℕ (UInt w64).own_val (map (λ (v : ℕ). v) s.words) us) → Formed s
-formed_of s us n f = record { four = length_unmapped ℕ s.words 4 n; fit = λ i. (elem_fits_field w64 w64 s.words us i f tt).fits }
+-- what owning a set tells, which an answer finds by `search formed_of`
+pub formed_of : (s : IdSet) (us : List Val) → length s.words ≡ 4 → shadow (each ℕ (UInt w64).own_val s.words us) → Formed s
+formed_of s us n f = record { four = n; fit = λ i. (elem_Fits w64 w64 s.words us i f tt).fits }
 
 -- four words, as the code builds a set
 pub formed_words : {a b c d : ℕ} → a < 2 ^ 64 → b < 2 ^ 64 → c < 2 ^ 64 → d < 2 ^ 64 → Formed (record { words = a ∷ b ∷ c ∷ d ∷ [] })

@@ -1,0 +1,9 @@
+-- Each word has no mark above the limit exactly when every member is at most it.
+use Rattle.idset.proofs.Members.{Formed, formed_of}
+use Rattle.idset.proofs.Within.{within_words}
+use Rattle.idset.proofs.IdSet.within.Goals as goal
+
+pub returns : goal.returns
+returns c =
+    let formed : Formed c.args.self = search formed_of in
+    rw (c.clear_above-a.ensures, c.clear_above-b.ensures, c.clear_above-c.ensures, c.clear_above-d.ensures) (within_words _ _ formed)
