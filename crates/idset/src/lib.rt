@@ -6,7 +6,7 @@
 ghost use Rattle.std.specs.Prelude.{◌≡◌, ◌-◌, ◌^◌, max, ltb};
 ghost use Rattle.idset.specs.Members.{set_in, MarksAlone, member_of, no_ids, with_of, without_of, size_of, next_mark, within_of, larger_of};
 
-#[derive(Drop)]
+#[derive(Clone, Copy)]
 pub struct IdSet {
     pub words: [u64; 4],
 }

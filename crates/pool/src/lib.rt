@@ -19,18 +19,18 @@ use idset::IdSet;
 use worker::Worker;
 
 // What callers name. Three structs, so that none is taken for another.
-#[derive(Drop)]
+#[derive(Clone, Copy)]
 pub struct WorkerNo(pub u32);
 
-#[derive(Drop)]
+#[derive(Clone, Copy)]
 pub struct GuardNo(pub u32);
 
-#[derive(Drop)]
+#[derive(Clone, Copy)]
 pub struct BufferId(pub u32);
 
 // Labels, states and employers are plain numbers: a damaged record can be written down too. Guard i is entry i of its arrays, buffer id
 // is entry id - 1 of the states, and worker no is entry no - 1 of the workers and of the sets.
-#[derive(Drop)]
+#[derive(Clone, Copy)]
 pub struct Pool {
     pub w: u32,
     pub g: u32,
@@ -46,7 +46,7 @@ pub struct Pool {
     pub sets: [IdSet; 8],
 }
 
-#[derive(Drop)]
+#[derive(Clone, Copy)]
 pub enum Refusal {
     SizesOutOfRange,
     // The rules of soundness, in the paper's order: W, G, B and MAXG; entries beyond the counts; employers, states and labels; ids; registers.
@@ -69,7 +69,7 @@ pub enum Refusal {
     MemberNotLeaving,
 }
 
-#[derive(Drop)]
+#[derive(Clone, Copy)]
 pub enum Answer {
     Accepted,
     Yes,
@@ -90,7 +90,7 @@ pub enum Answer {
     Refused(Refusal, usize),
 }
 
-#[derive(Drop)]
+#[derive(Clone, Copy)]
 pub struct Outcome {
     pub answer: Answer,
     pub pool: Pool,
@@ -98,7 +98,7 @@ pub struct Outcome {
 
 // What one advance of a worker reads and may store, but for the states: its own number, registers and set, G, MAXG, and the guard that it is
 // at.
-#[derive(Drop)]
+#[derive(Clone, Copy)]
 struct Reach {
     no: u32,
     g: u32,
@@ -112,21 +112,21 @@ struct Reach {
     slot_version: u32,
 }
 
-#[derive(Drop)]
+#[derive(Clone, Copy)]
 struct Moved {
     answer: Answer,
     reach: Reach,
 }
 
 // What a check of a record, or of a call's record and arguments, found.
-#[derive(Drop)]
+#[derive(Clone, Copy)]
 pub enum Verdict {
     Fine,
     Fault(Refusal, usize),
 }
 
 // What the check of a give-up list found and, where that is nothing, the list's ids as a set.
-#[derive(Drop)]
+#[derive(Clone, Copy)]
 struct Judged {
     check: Verdict,
     met: IdSet,
