@@ -13,7 +13,7 @@ use mir.Val.{Val}
 use denote.Array.{each}
 use denote.Shadow.{shadow}
 use denote.Plain.{UInt}
-use borrow.Author.Rules.{length_unmapped, elem_fits_field}
+use borrow.Author.Rules.{length_unmapped, elem_Fits, elem_fits_field}
 use borrow.Author.Tests.{le-leb, leb-true, ne_eqb, eqb-true}
 use Rattle.basics.proofs.Truth.{and_left, and_right, and_cong, and_swap, is_false, eqb_same}
 use Rattle.idset.specs.declared.IdSet.{IdSet}
@@ -63,6 +63,10 @@ pub record Formed (s : IdSet) : Type 0 where
 pub formed_of : (s : IdSet) (us : List Val) → length (map (λ (v : ℕ). v) s.words) ≡ 4
     → shadow (each ℕ (UInt w64).own_val (map (λ (v : ℕ). v) s.words) us) → Formed s
 formed_of s us n f = record { four = length_unmapped ℕ s.words 4 n; fit = λ i. (elem_fits_field w64 w64 s.words us i f tt).fits }
+
+-- the same, where the field stands as it is
+pub formed_owned : (s : IdSet) (us : List Val) → length s.words ≡ 4 → shadow (each ℕ (UInt w64).own_val s.words us) → Formed s
+formed_owned s us n f = record { four = n; fit = λ i. (elem_Fits w64 w64 s.words us i f tt).fits }
 
 -- four words, as the code builds a set
 pub formed_words : {a b c d : ℕ} → a < 2 ^ 64 → b < 2 ^ 64 → c < 2 ^ 64 → d < 2 ^ 64 → Formed (record { words = a ∷ b ∷ c ∷ d ∷ [] })
