@@ -11,13 +11,13 @@ use denote.Shadow.{shadow}
 use denote.Struct.Declared.{row}
 use Rattle.idset.specs.declared.IdSet.{IdSet}
 use Rattle.idset.specs.contracts.IdSet.{the_type}
-use Rattle.idset.proofs.Members.{Formed, formed_owned}
+use Rattle.idset.proofs.Members.{Formed, formed_of}
 
 in_list : (xs : List IdSet) (us : List Val) (i : ℕ) → shadow (each IdSet (row the_type).own_val xs us)
     → i < length xs → Formed (get_or xs i (record { words = [] }))
 in_list [] us i p h = absurd (not-suc-le-zero h)
 in_list (x ∷ xs) [] i p h = absurd p
-in_list (x ∷ xs) (u ∷ us) zero p h = search formed_owned
+in_list (x ∷ xs) (u ∷ us) zero p h = search formed_of
 in_list (x ∷ xs) (u ∷ us) (suc i) p h = in_list xs us i p.1 (le_of_suc-le-suc h)
 
 -- of an array that a function is given: `c .. .good`
