@@ -13,7 +13,7 @@ use Rattle.worker.specs.declared.Worker.{Worker}
 use Rattle.pool.specs.declared.WorkerNo.{WorkerNo}
 use Rattle.pool.specs.declared.Pool.{Pool}
 use Rattle.pool.specs.Sound.{in_range}
-use Rattle.pool.specs.Answers.{Said, Told, back, label, after_check}
+use Rattle.pool.specs.Answers.{Said, Told, back, after_check}
 use Rattle.pool.specs.Record.{blank, worker_at, set_at}
 use Rattle.pool.specs.Steps.{puts, ends, line2, line18, line28, line32, line_of, stand_check, advance_check, advance_of, handed, list_after}
 use Rattle.pool.proofs.Parts.{sizes_of}

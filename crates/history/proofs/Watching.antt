@@ -57,7 +57,7 @@ record Served (x' : Mover) (s : ℕ → ℕ) : Type 0 where
   after : x'.label < 12
   same : (b : ℕ) → x'.member b ≡ s b
 
-served : {d d' : Desk} {k : ℕ} {x x' : Mover} {s : ℕ → ℕ} → Serve d k x s d' x' → Served x' s
+served : {d : Desk} {k : ℕ} {x : Mover} {s : ℕ → ℕ} {d' : Desk} {x' : Mover} → Serve d k x s d' x' → Served x' s
 served (hire e) = record { after = omega arith; same = λ b. refl }
 served (s2y e t) = record { after = omega arith; same = λ b. refl }
 served (s2n e) = record { after = omega arith; same = λ b. refl }

@@ -73,13 +73,13 @@ module _ (rule : ℕ) (place : ℕ → ℕ) (test : ℕ → ℕ → Bool) where
     answered : passed ≡ test rule k
     answered = e ∙ ap (λ (n : ℕ). test n k) same
 
-    pub search_again : not passed ≡ false → first_below (k + 1) asks ≡ fine
+    pub search_again : passed ≡ true → first_below (k + 1) asks ≡ fine
     unfolding unless
-    search_again q = first_again asks k so_far (rw (sym answered ∙ not-false passed q))
+    search_again q = first_again asks k so_far (rw (sym answered ∙ q))
 
-    pub search_stop : (n at : ℕ) → at ≡ place k → k < n → not passed ≡ true → refuse rule at ≡ first_below n asks
+    pub search_stop : (n at : ℕ) → at ≡ place k → k < n → passed ≡ false → refuse rule at ≡ first_below n asks
     unfolding unless
-    search_stop n at there l q = first_stop asks k n rule at so_far (rw (sym answered ∙ not-true passed q, there)) l
+    search_stop n at there l q = first_stop asks k n rule at so_far (rw (sym answered ∙ q, there)) l
 
 -- the tests of several rules, each of which counts for its own alone
 pub asked_two : (a x y : Bool) → ((not a || x) && (a || y)) ≡ when a x y

@@ -1,21 +1,26 @@
-use Rattle.std.proofs.Common.{rules, ◌≡◌, ◌≤◌, eqb, get_or, ℕ, ◌+◌, ◌-◌, ◌*◌, ◌<◌, length, ◌/◌, ◌%◌, Bool, true, false, nat_lt, List, [], ◌∷◌, ◌++◌, slice_set, bit_and, bit_or, Fits, w8, w32, w64, Bor, MutBor}
-use Rattle.basics.specs.Below.{count_below}
-use Rattle.pool.specs.Answers.{said}
-use Rattle.pool.specs.Questions.{set_size_of, leaving_count_of, audit_from, audit_of}
+-- `pool::Pool::set_size` meets its contract. Assumes nothing.
+use Rattle.pool.specs.Questions.{set_size_of}
+use Rattle.pool.proofs.Told.{answers, judged}
+use Rattle.pool.proofs.Checked.{named_by, index}
 use Rattle.pool.proofs.Pool.set_size.Goals as goal
 
--- src/questions.rt:31:26
 pub overflow_sub-k : goal.overflow_sub-k
-overflow_sub-k c = ?
+overflow_sub-k c =
+    (named_by c.worker_verdict-check.result c.args.self c.args.w
+    (judged c.worker_verdict-check.result c.soundness-sound.result c.args.self c.args.w c.worker_verdict-check.ensures c.soundness-sound.ensures)
+    c.in-Fine.is).some
 
--- src/questions.rt:32:25
 pub bounds-self-k : goal.bounds-self-k
-bounds-self-k c = ?
+bounds-self-k c =
+    index
+    (named_by c.worker_verdict-check.result c.args.self c.args.w
+    (judged c.worker_verdict-check.result c.soundness-sound.result c.args.self c.args.w c.worker_verdict-check.ensures c.soundness-sound.ensures)
+    c.in-Fine.is)
 
--- src/questions.rt:23:5
 pub returns-in-Fault : goal.returns-in-Fault
-returns-in-Fault c = ?
+unfolding set_size_of
+returns-in-Fault c = search (answers, judged) depth 12
 
--- src/questions.rt:23:5
 pub returns-in-Fine : goal.returns-in-Fine
-returns-in-Fine c = ?
+unfolding set_size_of
+returns-in-Fine c = search (answers, judged) depth 12

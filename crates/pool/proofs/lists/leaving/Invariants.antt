@@ -1,0 +1,7 @@
+-- The ids before this one have left.
+use Rattle.std.proofs.Common.{◌≡◌}
+use Rattle.pool.proofs.GiveUps.{left_first}
+use Rattle.pool.proofs.lists.leaving.Given as goal
+
+abbrev pub invariant-loop-j : goal.invariant-loop-j
+invariant-loop-j l = l.states ≡ left_first l.initial.states l.ids l.j
