@@ -1,49 +1,64 @@
-use Rattle.std.proofs.Common.{rules, ◌≡◌, ◌<◌, length, ℕ, ◌+◌, ◌-◌, ◌*◌, ◌≤◌, ◌/◌, ◌%◌, Bool, true, false, nat_eq, nat_lt, List, [], ◌∷◌, ◌++◌, slice_index_or, slice_set, bit_and, bit_or, Fits, w8, w32, w64, Bor, MutBor}
-use Rattle.pool.specs.Answers.{told, said, after_check}
-use Rattle.pool.specs.Record.{set_at}
-use Rattle.pool.specs.Steps.{ends, line32, hand_check, advance_of, handed, list_after_check, list_after}
+-- `pool::Pool::advance` meets its contract: what the check found, and the line of the label that the worker stands at. Assumes nothing.
+use Rattle.std.proofs.Common.{◌-◌, length, refl}
+use Rattle.pool.proofs.Dispatch.{stopped, stopped_list, some, entry_below, idle_stops, here_stands, i_least, line_goes, hand_goes}
+use Rattle.pool.proofs.Told.{judged}
 use Rattle.pool.proofs.Pool.advance.Goals as goal
 
--- src/advance.rt:45:13
 pub returns-in-Fault-clause-outcome : goal.returns-in-Fault-clause-outcome
-returns-in-Fault-clause-outcome c = ?
+returns-in-Fault-clause-outcome c =
+    let e = judged c.worker_verdict-check.result c.parts_check-sound.result c.args.self c.args.w c.worker_verdict-check.ensures c.parts_check-sound.ensures in
+    stopped _ c.args.self c.args.w e c.args.out.now _ _ c.in-Fault.is
 
--- src/advance.rt:45:13
 pub returns-in-Fault-clause-list : goal.returns-in-Fault-clause-list
-returns-in-Fault-clause-list c = ?
+returns-in-Fault-clause-list c =
+    let e = judged c.worker_verdict-check.result c.parts_check-sound.result c.args.self c.args.w c.worker_verdict-check.ensures c.parts_check-sound.ensures in
+    stopped_list _ c.args.self c.args.w e c.args.out.now _ _ c.in-Fault.is
 
--- src/advance.rt:50:18
 pub overflow_sub-k : goal.overflow_sub-k
-overflow_sub-k c = ?
+overflow_sub-k c =
+    let e = judged c.worker_verdict-check.result c.parts_check-sound.result c.args.self c.args.w c.worker_verdict-check.ensures c.parts_check-sound.ensures in
+    some _ c.args.self c.args.w e c.args.out.now c.in_default.is
 
--- src/advance.rt:51:18
 pub bounds-self-k : goal.bounds-self-k
-bounds-self-k c = ?
+bounds-self-k c =
+    let e = judged c.worker_verdict-check.result c.parts_check-sound.result c.args.self c.args.w c.worker_verdict-check.ensures c.parts_check-sound.ensures in
+    entry_below _ c.args.self c.args.w e c.args.out.now c.in_default.is
 
--- src/advance.rt:53:13
 pub returns-then-me-eq0-clause-outcome : goal.returns-then-me-eq0-clause-outcome
-returns-then-me-eq0-clause-outcome c = ?
+returns-then-me-eq0-clause-outcome c =
+    let e = judged c.worker_verdict-check.result c.parts_check-sound.result c.args.self c.args.w c.worker_verdict-check.ensures c.parts_check-sound.ensures in
+    (idle_stops _ c.args.self c.args.w e c.args.out.now c.in_default.is c.if-me-eq0.true).0
 
--- src/advance.rt:53:13
 pub returns-then-me-eq0-clause-list : goal.returns-then-me-eq0-clause-list
-returns-then-me-eq0-clause-list c = ?
+returns-then-me-eq0-clause-list c =
+    let e = judged c.worker_verdict-check.result c.parts_check-sound.result c.args.self c.args.w c.worker_verdict-check.ensures c.parts_check-sound.ensures in
+    (idle_stops _ c.args.self c.args.w e c.args.out.now c.in_default.is c.if-me-eq0.true).1
 
--- src/advance.rt:59:13
 pub returns-then-me-eq32-clause-outcome : goal.returns-then-me-eq32-clause-outcome
-returns-then-me-eq32-clause-outcome c = ?
+returns-then-me-eq32-clause-outcome c =
+    let e = judged c.worker_verdict-check.result c.parts_check-sound.result c.args.self c.args.w c.worker_verdict-check.ensures c.parts_check-sound.ensures in
+    (hand_goes _ c.args.self c.args.w e c.args.out.now c.in_default.is c.if-me-eq0.false _ _ c.if-me-eq32.true c.line32.ensures.outcome c.line32.ensures.list).0
 
--- src/advance.rt:59:13
 pub returns-then-me-eq32-clause-list : goal.returns-then-me-eq32-clause-list
-returns-then-me-eq32-clause-list c = ?
+returns-then-me-eq32-clause-list c =
+    let e = judged c.worker_verdict-check.result c.parts_check-sound.result c.args.self c.args.w c.worker_verdict-check.ensures c.parts_check-sound.ensures in
+    (hand_goes _ c.args.self c.args.w e c.args.out.now c.in_default.is c.if-me-eq0.false _ _ c.if-me-eq32.true c.line32.ensures.outcome c.line32.ensures.list).1
 
--- src/advance.rt:81:13
 pub line-moved-requires : goal.line-moved-requires
-line-moved-requires c = ?
+line-moved-requires c =
+    let e = judged c.worker_verdict-check.result c.parts_check-sound.result c.args.self c.args.w c.worker_verdict-check.ensures c.parts_check-sound.ensures in
+    i_least _ c.args.self c.args.w e c.args.out.now c.in_default.is c.if-me-eq0.false
 
--- src/advance.rt:23:5
 pub returns-clause-outcome : goal.returns-clause-outcome
-returns-clause-outcome c = ?
+returns-clause-outcome c =
+    let e = judged c.worker_verdict-check.result c.parts_check-sound.result c.args.self c.args.w c.worker_verdict-check.ensures c.parts_check-sound.ensures in
+    let here = here_stands _ c.args.self c.args.w e c.args.out.now c.in_default.is c.if-me-eq0.false in
+    (line_goes _ c.args.self c.args.w e c.args.out.now c.in_default.is c.if-me-eq0.false _ c.if-me-eq32.false
+    (c.line-moved.ensures (c.args.w.0 - 1) c.place_of-i.result c.args.self refl here c.place_of-i.ensures.1 c.if-me-eq32.false (length c.args.out.now))).0
 
--- src/advance.rt:23:5
 pub returns-clause-list : goal.returns-clause-list
-returns-clause-list c = ?
+returns-clause-list c =
+    let e = judged c.worker_verdict-check.result c.parts_check-sound.result c.args.self c.args.w c.worker_verdict-check.ensures c.parts_check-sound.ensures in
+    let here = here_stands _ c.args.self c.args.w e c.args.out.now c.in_default.is c.if-me-eq0.false in
+    (line_goes _ c.args.self c.args.w e c.args.out.now c.in_default.is c.if-me-eq0.false _ c.if-me-eq32.false
+    (c.line-moved.ensures (c.args.w.0 - 1) c.place_of-i.result c.args.self refl here c.place_of-i.ensures.1 c.if-me-eq32.false (length c.args.out.now))).1

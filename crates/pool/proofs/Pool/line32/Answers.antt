@@ -1,29 +1,37 @@
-use Rattle.std.proofs.Common.{rules, ◌≡◌, ◌<◌, length, ℕ, ◌+◌, ◌-◌, ◌*◌, ◌≤◌, ◌/◌, ◌%◌, Bool, true, false, nat_eq, nat_lt, List, [], ◌∷◌, ◌++◌, slice_index_or, slice_set, bit_and, bit_or, Fits, w8, w32, w64, Bor, MutBor}
-use Rattle.pool.specs.Answers.{told, said, after_check}
-use Rattle.pool.specs.Record.{set_at}
-use Rattle.pool.specs.Steps.{ends, line32, hand_check, advance_of, handed, list_after_check, list_after}
+-- `pool::Pool::line32` meets its contract: what the hand-back's check finds at each exit, and what its loops made of the record. Assumes nothing.
+use Rattle.std.proofs.Common.{◌≡◌, length, not, ap, ◌∙◌, rules}
+use Rattle.pool.specs.Answers.{fine, refuse}
+use Rattle.pool.specs.Steps.{hand_check}
+use Rattle.pool.proofs.Dispatch.{after_is, after_stops, list_is, list_stops, not_all_leaving, too_short, hands, handed-back}
 use Rattle.pool.proofs.Pool.line32.Goals as goal
 
--- src/advance.rt:109:13
+-- what the check finds at each exit
+stays : (c : goal.Then-not-leaving) → hand_check c.args.k c.args.self (length c.args.out.now) ≡ refuse 14 0
+stays c = not_all_leaving _ c.args.self _ _ c.all_leaving-leaving.ensures (ap not c.if-not-leaving.true)
+
+short : (c : goal.Then-out-size) → hand_check c.args.k c.args.self (length c.args.out.now) ≡ refuse 13 0
+short c = too_short _ c.args.self _ _ c.all_leaving-leaving.ensures (ap not c.if-not-leaving.false) _ c.size-size.ensures c.if-out-size.true
+
+goes : (c : goal.After-ends) → hand_check c.args.k c.args.self (length c.args.out.now) ≡ fine
+goes c = hands _ c.args.self _ _ c.all_leaving-leaving.ensures (ap not c.if-not-leaving.false) _ c.size-size.ensures c.if-out-size.false
+
 pub returns-then-not-leaving-clause-outcome : goal.returns-then-not-leaving-clause-outcome
-returns-then-not-leaving-clause-outcome c = ?
+returns-then-not-leaving-clause-outcome c = after_stops _ _ (stays c)
 
--- src/advance.rt:109:13
 pub returns-then-not-leaving-clause-list : goal.returns-then-not-leaving-clause-list
-returns-then-not-leaving-clause-list c = ?
+returns-then-not-leaving-clause-list c = list_stops _ _ (stays c)
 
--- src/advance.rt:116:13
 pub returns-then-out-size-clause-outcome : goal.returns-then-out-size-clause-outcome
-returns-then-out-size-clause-outcome c = ?
+returns-then-out-size-clause-outcome c = after_stops _ _ (short c)
 
--- src/advance.rt:116:13
 pub returns-then-out-size-clause-list : goal.returns-then-out-size-clause-list
-returns-then-out-size-clause-list c = ?
+returns-then-out-size-clause-list c = list_stops _ _ (short c)
 
--- src/advance.rt:101:5
 pub returns-clause-outcome : goal.returns-clause-outcome
-returns-clause-outcome c = ?
+returns-clause-outcome c =
+    let long : length c.args.self.states ≡ 256 = search rules in
+    let free = rw long at c.hand.ensures.freed in
+    after_is _ _ (goes c) (c.ends.ensures ∙ handed-back c.args.k c.args.self (length c.args.out.now) _ _ c.size-size.ensures free)
 
--- src/advance.rt:101:5
 pub returns-clause-list : goal.returns-clause-list
-returns-clause-list c = ?
+returns-clause-list c = list_is _ _ (goes c) c.hand.ensures.list
