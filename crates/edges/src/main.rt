@@ -3,14 +3,16 @@
 
 use pool::{Answer, BufferId, GuardNo, Outcome, Pool, WorkerNo};
 use show::{print, print_answer, print_ids};
+use std::io;
 use worker::{Slot, Worker};
 
 // One line: which case, what was called, and the answer.
-fn tell(call: &[u8], answer: Answer) {
-    print(call);
-    print(b": ");
-    print_answer(answer);
-    print(b"\n");
+fn tell(rt: &impl Print, call: &[u8], answer: Answer) -> io::Result<()> {
+    print(rt, call)?;
+    print(rt, b": ")?;
+    print_answer(rt, answer)?;
+    print(rt, b"\n")?;
+    Ok(())
 }
 
 fn fresh() -> Pool {
@@ -64,15 +66,18 @@ fn exchange_at(version: u32) -> Answer {
     done.answer
 }
 
-fn case_11() {
+fn case_11(rt: &impl Print) -> io::Result<()> {
     tell(
+        rt,
         b"case 11, label 18, the slot's version is 4294967295",
         exchange_at(4294967295),
-    );
+    )?;
     tell(
+        rt,
         b"case 11, label 18, the slot's version is 4294967294",
         exchange_at(4294967294),
-    );
+    )?;
+    Ok(())
 }
 
 // What worker 1 is answered that gives up a list while buffer 1 is in service.
@@ -81,55 +86,65 @@ fn given_up(ids: &[u32]) -> Answer {
     done.answer
 }
 
-fn case_12() {
-    tell(b"case 12, give up [1, 1]", given_up(&[1, 1]));
-    tell(b"case 12, give up [0]", given_up(&[0]));
-    tell(b"case 12, give up [1, 4]", given_up(&[1, 4]));
-    tell(b"case 12, give up [2, 1], 2 is free", given_up(&[2, 1]));
+fn case_12(rt: &impl Print) -> io::Result<()> {
+    tell(rt, b"case 12, give up [1, 1]", given_up(&[1, 1]))?;
+    tell(rt, b"case 12, give up [0]", given_up(&[0]))?;
+    tell(rt, b"case 12, give up [1, 4]", given_up(&[1, 4]))?;
+    tell(rt, b"case 12, give up [2, 1], 2 is free", given_up(&[2, 1]))?;
+    Ok(())
 }
 
-fn fired(call: &[u8], pool: Pool) -> Pool {
+fn fired(rt: &impl Print, call: &[u8], pool: Pool) -> io::Result<Pool> {
     let done = pool.fire(WorkerNo(1), GuardNo(0));
     let answer = done.answer;
-    tell(call, answer);
-    done.pool
+    tell(rt, call, answer)?;
+    Ok(done.pool)
 }
 
-fn case_13() {
+fn case_13(rt: &impl Print) -> io::Result<()> {
     let hiring = fresh().hire(WorkerNo(1));
     let hired = advanced_by(hiring.pool, 1, 3);
     let standing = posted(taken(hired, 1), 1, 0, 1);
-    let refused = fired(b"case 13, fire of a posted guard", standing);
+    let refused = fired(rt, b"case 13, fire of a posted guard", standing)?;
     let down = posted(refused, 1, 0, 0);
-    fired(b"case 13, fire after standing down", down);
+    fired(rt, b"case 13, fire after standing down", down)?;
+    Ok(())
 }
 
 // Label 32 with a lent list, and the list afterwards.
-fn handed_back(call: &[u8], pool: Pool, list: &mut [u32]) -> Pool {
+fn handed_back(rt: &impl Print, call: &[u8], pool: Pool, list: &mut [u32]) -> io::Result<Pool> {
     let done = pool.advance(WorkerNo(1), list);
     let answer = done.answer;
-    tell(call, answer);
-    print(b"case 14, the list is then");
-    print_ids(list);
-    print(b"\n");
-    done.pool
+    tell(rt, call, answer)?;
+    print(rt, b"case 14, the list is then")?;
+    print_ids(rt, list)?;
+    print(rt, b"\n")?;
+    Ok(done.pool)
 }
 
-fn case_14() {
+fn case_14(rt: &impl Print) -> io::Result<()> {
     let both = taken(taken(fresh(), 1), 2);
     let giving = both.give_up(WorkerNo(1), &[1, 2]);
     let at32 = advanced_by(giving.pool, 1, 6);
-    let refused = handed_back(b"case 14, a set of two and a list of one", at32, &mut [7]);
+    let refused = handed_back(
+        rt,
+        b"case 14, a set of two and a list of one",
+        at32,
+        &mut [7],
+    )?;
     handed_back(
+        rt,
         b"case 14, the same with a list of two",
         refused,
         &mut [7, 7],
-    );
+    )?;
+    Ok(())
 }
 
-fn main() {
-    case_11();
-    case_12();
-    case_13();
-    case_14();
+fn main(rt: HostRuntime) -> io::Result<()> {
+    case_11(&rt)?;
+    case_12(&rt)?;
+    case_13(&rt)?;
+    case_14(&rt)?;
+    Ok(())
 }

@@ -28,7 +28,7 @@ pub enum Line {
 }
 
 // What a line is to whoever reads blocks.
-#[derive(Drop)]
+#[derive(Clone, Copy)]
 pub enum Kind {
     Make,
     Call,

@@ -1,5 +1,6 @@
 -- What the arms of a match on a line's kind are told. Assumes nothing.
 use Prim.Native.Nat.{ℕ}
+use mathlib.Core.Logic.{inl, inr}
 use mathlib.Core.Path.{◌≡◌, refl}
 use mathlib.Core.List.{[], ◌∷◌}
 use mathlib.Core.Bool.{false}
@@ -31,3 +32,10 @@ not_make Call h = refl
 not_make (Repeat n) h = refl
 not_make End h = refl
 not_make Wrong h = refl
+
+pub neither : (k : Kind) → (k ≡ Call → ⊥) → ((n : ℕ) → k ≡ Repeat n → ⊥) → OneOf (0 ∷ 3 ∷ 4 ∷ []) (tag_of K.the_type k)
+neither Make p q = inl refl
+neither Call p q = absurd (p refl)
+neither (Repeat n) p q = absurd (q n refl)
+neither End p q = inr (inl refl)
+neither Wrong p q = inr (inr refl)

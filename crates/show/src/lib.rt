@@ -4,50 +4,51 @@
 pub mod refusal;
 mod unsound;
 
-use libc::STDOUT_FILENO;
 use pool::Answer;
+use std::io;
 
-pub fn print(text: &[u8]) {
-    io::write_all(STDOUT_FILENO, text);
+pub fn print(rt: &impl Print, text: &[u8]) -> io::Result<()> {
+    rt.write_all(text)
 }
 
-pub fn print_number(before: &[u8], n: u32) {
-    io::write_all(STDOUT_FILENO, before);
-    io::print_decimal(STDOUT_FILENO, n as u64);
+pub fn print_number(rt: &impl Print, before: &[u8], n: u32) -> io::Result<()> {
+    rt.write_all(before)?;
+    rt.print(n)
 }
 
-pub fn print_place(before: &[u8], place: usize) {
-    io::write_all(STDOUT_FILENO, before);
-    io::print_decimal(STDOUT_FILENO, place as u64);
+pub fn print_place(rt: &impl Print, before: &[u8], place: usize) -> io::Result<()> {
+    rt.write_all(before)?;
+    rt.print(place)
 }
 
 // The ids at the start of a list, each after a space.
-pub fn print_ids(ids: &[u32]) {
+pub fn print_ids(rt: &impl Print, ids: &[u32]) -> io::Result<()> {
     for k in 0..ids.len() {
-        print_number(b" ", ids[k]);
+        print_number(rt, b" ", ids[k])?;
     }
+    Ok(())
 }
 
-pub fn print_answer(answer: Answer) {
+pub fn print_answer(rt: &impl Print, answer: Answer) -> io::Result<()> {
     match answer {
-        Answer::Accepted => print(b"accepted"),
-        Answer::Yes => print(b"yes"),
-        Answer::No => print(b"no"),
-        Answer::At(label) => print_number(b"to ", label),
-        Answer::Hired(guard) => print_number(b"guard ", guard.0),
-        Answer::NoneFound => print(b"none found"),
-        Answer::Fired => print(b"fired"),
-        Answer::Posted => print(b"posted"),
-        Answer::Back(count) => print_number(b"handed back ", count),
-        Answer::Count(n) => print_number(b"", n),
-        Answer::Clear => print(b"clear"),
+        Answer::Accepted => print(rt, b"accepted"),
+        Answer::Yes => print(rt, b"yes"),
+        Answer::No => print(rt, b"no"),
+        Answer::At(label) => print_number(rt, b"to ", label),
+        Answer::Hired(guard) => print_number(rt, b"guard ", guard.0),
+        Answer::NoneFound => print(rt, b"none found"),
+        Answer::Fired => print(rt, b"fired"),
+        Answer::Posted => print(rt, b"posted"),
+        Answer::Back(count) => print_number(rt, b"handed back ", count),
+        Answer::Count(n) => print_number(rt, b"", n),
+        Answer::Clear => print(rt, b"clear"),
         Answer::Fault(id, places) => {
-            print_number(b"buffer ", id.0);
-            print_number(b" has places ", places);
+            print_number(rt, b"buffer ", id.0)?;
+            print_number(rt, b" has places ", places)
         }
         Answer::Refused(refusal, place) => {
-            print_number(b"refused ", refusal.number());
-            print_place(b" at place ", place);
+            print_number(rt, b"refused ", refusal.number())?;
+            print_place(rt, b" at place ", place)
         }
     }
 }
