@@ -4,7 +4,6 @@ use mathlib.Core.Bool.{Bool, true, false, not, ◌&&◌, ◌||◌, false≢true}
 use Prim.Native.Nat.{ℕ, zero, suc, ◌+◌, ◌<◌}
 use native.Mathlib.Numerals.{add-one}
 use native.Mathlib.Omega.{arith}
-use borrow.Author.Tests.{not-true, not-false}
 use Rattle.basics.specs.Pick.{when, unless}
 use Rattle.basics.specs.Below.{all_below}
 use Rattle.basics.proofs.All.{all_cong}

@@ -1,7 +1,7 @@
 -- `pool::Pool::begin_check` meets its contract. Assumes nothing.
 use Rattle.pool.specs.Checks.{begin_check}
 use Rattle.pool.proofs.Told.{checks, judged}
-use Rattle.pool.proofs.Checked.{Named, named_by, index}
+use Rattle.pool.proofs.Checked.{named_by, index}
 use Rattle.pool.proofs.Pool.begin_check.Goals as goal
 
 pub overflow_sub-k : goal.overflow_sub-k

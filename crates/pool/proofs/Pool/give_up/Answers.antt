@@ -19,7 +19,7 @@ pub returns-in-Fault-check : goal.returns-in-Fault-check
 unfolding give_up_of give_up_check
 returns-in-Fault-check c =
     let list : verdict c.list_check-list.result.check ≡ list_check c.args.self c.args.ids.now (length c.args.ids.now) =
-        c.list_check-list.ensures.check ∙ list-judged c.args.self c.args.ids.now (length c.args.ids.now) in
+    c.list_check-list.ensures.check ∙ list-judged c.args.self c.args.ids.now (length c.args.ids.now) in
     search after_second
 
 pub overflow_sub-k : goal.overflow_sub-k
@@ -38,7 +38,7 @@ pub returns : goal.returns
 unfolding give_up_of give_up_check
 returns c =
     let list : verdict c.list_check-list.result.check ≡ list_check c.args.self c.args.ids.now (length c.args.ids.now) =
-        c.list_check-list.ensures.check ∙ list-judged c.args.self c.args.ids.now (length c.args.ids.now) in
+    c.list_check-list.ensures.check ∙ list-judged c.args.self c.args.ids.now (length c.args.ids.now) in
     let long : length c.args.self.states ≡ 256 = search rules in
     let set = c.list_check-list.ensures.met (fine-told c.list_check-list.result.check c.in_default-check.is) in
     search (after_both, given_up)

@@ -16,10 +16,9 @@ loop-k-init c = (rw c.empty-tops.ensures none_formed, rw c.empty-tops.ensures (n
 pub loop-k-preserved : goal.loop-k-preserved
 loop-k-preserved c =
     let so_far = c.loop-k.invariant in
-    let entry : Formed (get_or c.args.ss c.loop-k.k (record { words = [] })) = formed_each c.args.ss _ _ _ c.well_formed.0 c.loop-k-test.true in
-    (
+    let entry : Formed (get_or c.args.ss c.loop-k.k (record { words = [] })) = formed_each c.args.ss _ _ _ c.well_formed.0 c.loop-k-test.true in (
       rw c.larger-next.ensures (larger_formed so_far.0 entry),
-      rw c.larger-next.ensures (within_larger _ _ _ so_far.0 entry ∙ all_again _ _ so_far.1 refl)
+      rw c.larger-next.ensures (within_larger _ _ _ so_far.0 entry ∙ all_again _ _ so_far.1 refl),
     )
 
 pub returns-then-count-ge8 : goal.returns-then-count-ge8
