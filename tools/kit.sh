@@ -23,3 +23,27 @@ shadow_kit() { # FOLDER
     cat >"$1/toolchain/bin/clang"
     chmod +x "$1/toolchain/bin/clang"
 }
+
+# Compiles the program of a crate, unproved: rt try does so with checks and a sanitizer, and the same module is compiled once more, without the sanitizer
+# and at -O3. What the compiler said is printed where it refuses the program, and the status is then 1.
+compile() ( # FOLDER CRATE PROGRAM: the repository's folder, and where the program is put
+    room=$(mktemp -d)
+    trap 'rm -rf "$room"' EXIT
+    shadow_kit "$room/kit" <<END
+#!/bin/sh
+case " \$* " in *" -fsanitize=address "*) "$parts/bin/clang" "\$@" -O3 -fno-sanitize=address -o "$room/made.o" || exit ;; esac
+exec "$parts/bin/clang" "\$@"
+END
+    if ! {
+        (cd "$1/crates/$2" && "$room/kit/bin/rt" try --steps 1) &&
+            "$kit/bin/rattle-link" --target x86_64-unknown-linux-gnu --toolchain "$parts" -o "$room/made" "$room/made.o" "$kit"/c/lib*_c.a
+    } </dev/null >"$room/log" 2>&1; then
+        cat "$room/log" >&2
+        exit 1
+    fi
+    # as old as the sources that were read, so that an edit made meanwhile is not missed
+    touch -r "$room/kit" "$room/made"
+    mkdir -p "$(dirname "$3")"
+    mv "$room/made" "$3.$BASHPID"
+    mv "$3.$BASHPID" "$3"
+)
