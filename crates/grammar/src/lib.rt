@@ -12,7 +12,7 @@ use crate::names::{Verb, verb_at};
 use crate::numbers::{numbers_at, word_end};
 
 // What a line says: a call with its numbers, save the ids of a give-up; the start or the end of a block; or nothing that is lawful.
-#[derive(Drop)]
+#[derive(Clone, Copy)]
 pub enum Line {
     Make(u32, u32, u32),
     Take(u32),

@@ -3,7 +3,7 @@ ghost use Rattle.std.specs.Prelude.{◌≡◌, ◌-◌, ◌≤◌, length};
 ghost use Rattle.grammar.specs.Words.{span, same};
 ghost use Rattle.grammar.specs.Line.{verb_of, guard_verb, buffer_verb, block_verb};
 
-#[derive(Drop)]
+#[derive(Clone, Copy)]
 pub enum Verb {
     Making,
     Taking,

@@ -4,14 +4,14 @@ ghost use Rattle.tables.specs.Write.{write_at};
 ghost use Rattle.grammar.specs.Words.{span, word_length, is_digit, unpadded, number_of, words_after, numbers_of, tell_numbers};
 
 // What a word is as a number.
-#[derive(Drop)]
+#[derive(Clone, Copy)]
 pub enum Number {
     Value(u32),
     No,
 }
 
 // How many numbers there are before the first word that is none, and whether every word is one.
-#[derive(Drop)]
+#[derive(Clone, Copy)]
 pub struct Numbers {
     pub count: usize,
     pub all: bool,

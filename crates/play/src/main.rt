@@ -1,10 +1,12 @@
 // Plays the schedule on standard input (docs/SCHEDULES.md).
 #![tactic(auto)]
 
-use libc::{STDIN_FILENO, STDOUT_FILENO};
+ghost use Rattle.std.specs.Prelude.{◌≤◌, length, IfOk};
+
 use player::{play_line, put_read};
 use pool::Pool;
 use schedule::Read;
+use std::io;
 
 // A line is shorter than half a page.
 const HALF: usize = 32768;
@@ -29,21 +31,21 @@ fn put_line(page: &mut [u8], filled: usize, line: &[u8], n: usize) -> usize {
     to
 }
 
-// Writes out what is filled, and answers whether all of it was written.
-fn write_page(page: &[u8], filled: usize) -> bool {
+// Writes out what is filled.
+fn write_page(rt: &impl Print, page: &[u8], filled: usize) -> io::Result<()> {
     if page.len() < filled {
-        return false;
+        return Ok(());
     }
-    io::write_all(STDOUT_FILENO, &page[..filled])
+    rt.write_all(&page[..filled])
 }
 
 // The page with less than half of it filled: what there is is written out where it is more.
-fn with_room(page: &[u8], filled: usize) -> usize {
+fn with_room(rt: &impl Print, page: &[u8], filled: usize) -> io::Result<usize> {
     if filled < HALF {
-        return filled;
+        return Ok(filled);
     }
-    write_page(page, filled);
-    0
+    write_page(rt, page, filled)?;
+    Ok(0)
 }
 
 fn wide(place: u32) -> usize {
@@ -51,7 +53,7 @@ fn wide(place: u32) -> usize {
 }
 
 // The calls at the places, one after the other.
-fn play_calls(text: &[u8], places: &[u32], page: &mut [u8]) {
+fn play_calls(rt: &impl Print, text: &[u8], places: &[u32], page: &mut [u8]) -> io::Result<()> {
     let mut line = [0u8; 8192];
     let mut pool = Pool::blank(0, 0, 0);
     let mut filled: usize = 0;
@@ -61,26 +63,43 @@ fn play_calls(text: &[u8], places: &[u32], page: &mut [u8]) {
         let turn = play_line(text, wide(places[k]), number, pool, &mut line);
         let written = turn.written;
         pool = turn.pool;
-        filled = put_line(page, with_room(page, filled), &line, written);
+        let room = with_room(rt, page, filled)?;
+        filled = put_line(page, room, &line, written);
         k = number;
     }
-    write_page(page, filled);
+    write_page(rt, page, filled)
 }
 
-fn play(text: &[u8]) {
+fn play(rt: &impl Print, text: &[u8]) -> io::Result<()> {
     let mut places = [0u32; 100000];
-    let mut page = io::large_buffer();
+    let mut page = [0u8; 65536];
     let read = schedule::unroll(text, &mut places);
     if let Read::Calls(count) = read {
-        return play_calls(text, &places[..count], &mut page);
+        return play_calls(rt, text, &places[..count], &mut page);
     }
     let mut line = [0u8; 8192];
     let written = put_read(read, &mut line);
-    write_page(&line, written);
+    write_page(rt, &line, written)
 }
 
-fn main() {
+// Reads until the buffer is full or the input ends, and answers how much was read.
+fn read_full<R: io::Read>(input: &mut R, buffer: &mut [u8]) -> io::Result<usize>
+    ensures { IfOk result (λ n. n ≤ length buffer.new) }
+{
+    let mut filled: usize = 0;
+    while filled < buffer.len() {
+        let got = input.read(&mut buffer[filled..])?;
+        if got == 0 {
+            return Ok(filled);
+        }
+        filled += got;
+    }
+    Ok(filled)
+}
+
+fn main(rt: HostRuntime) -> io::Result<()> {
     let mut text = [0u8; 16385];
-    let n = io::read_full(STDIN_FILENO, &mut text);
-    play(&text[..n]);
+    let mut input = rt.reader();
+    let n = read_full(&mut input, &mut text)?;
+    play(&rt, &text[..n])
 }

@@ -14,7 +14,7 @@ use pool::{BufferId, GuardNo, Outcome, Pool, WorkerNo};
 use schedule::Read;
 
 // The record after a line, and how many bytes it printed.
-#[derive(Drop)]
+#[derive(Clone, Copy)]
 pub struct Turn {
     pub pool: Pool,
     pub written: usize,

@@ -11,7 +11,7 @@ use grammar::Kind;
 
 // What lines are read as: where the next one starts, the place of the lowest line at fault (the text's length where none is),
 // and the number of calls, which stops at 100,001.
-#[derive(Drop)]
+#[derive(Clone, Copy)]
 pub struct Got {
     pub next: usize,
     pub fault: usize,
@@ -149,7 +149,7 @@ fn line(s: &[u8], at: usize, depth: usize) -> Got
 }
 
 // Where the second pass is after some lines: where the next one starts, and the first place of the table that is still free.
-#[derive(Drop)]
+#[derive(Clone, Copy)]
 pub struct Put {
     pub next: usize,
     pub upto: usize,
@@ -202,7 +202,7 @@ fn put_line(s: &[u8], at: usize, depth: usize, t: &mut [u32], k: usize) -> Put
 }
 
 // What a text is read as: too long, the number of its lowest line at fault, or the number of its calls.
-#[derive(Drop)]
+#[derive(Clone, Copy)]
 pub enum Read {
     TooLong,
     BadLine(usize),

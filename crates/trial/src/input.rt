@@ -1,10 +1,10 @@
 // Standard input, line by line, out of a lent buffer.
-ghost use Rattle.std.specs.Prelude.{◌≡◌, ◌≤◌, ◌⊎◌, length};
+ghost use Rattle.std.specs.Prelude.{◌≡◌, ◌≤◌, ◌⊎◌, length, IfOk};
 
-use libc::STDIN_FILENO;
+use std::io;
 
 // Where a line stands in the buffer, without its line feed, and how far the buffer is filled. `found` is false where no whole line is left.
-#[derive(Drop)]
+#[derive(Clone, Copy)]
 pub struct Line {
     pub found: bool,
     pub from: usize,
@@ -41,55 +41,59 @@ fn to_front(buffer: &mut [u8], from: usize, filled: usize) -> usize {
 }
 
 // Reads once behind what is filled, and answers how far it is filled then.
-fn read_more(buffer: &mut [u8], filled: usize) -> usize {
+fn read_more<R: io::Read>(input: &mut R, buffer: &mut [u8], filled: usize) -> io::Result<usize> {
     if buffer.len() <= filled {
-        return filled;
+        return Ok(filled);
     }
-    let space = &mut buffer[filled..];
-    let got = libc::read(STDIN_FILENO, space);
-    filled + io::count(got, space)
+    let got = input.read(&mut buffer[filled..])?;
+    Ok(filled + got)
 }
 
 // The line that begins at a place. Where the buffer has no more than its beginning, that is moved to the front and more is read.
-pub fn next_line(buffer: &mut [u8], from: usize, filled: usize) -> Line
-    ensures { (result.from ≤ result.to) × (result.to ≤ length buffer.new) }
+pub fn next_line<R: io::Read>(
+    input: &mut R,
+    buffer: &mut [u8],
+    from: usize,
+    filled: usize,
+) -> io::Result<Line>
+    ensures { IfOk result (λ line. (line.from ≤ line.to) × (line.to ≤ length buffer.new)) }
 {
     let to = feed_from(buffer, from, filled);
     if to < filled {
-        return Line {
+        return Ok(Line {
             found: true,
             from: from,
             to: to,
             filled: filled,
-        };
+        });
     }
     let mut end = to_front(buffer, from, filled);
     loop {
-        let more = read_more(buffer, end);
+        let more = read_more(input, buffer, end)?;
         if buffer.len() < more {
-            return Line {
+            return Ok(Line {
                 found: false,
                 from: 0,
                 to: 0,
                 filled: more,
-            };
+            });
         }
         if more <= end {
-            return Line {
+            return Ok(Line {
                 found: false,
                 from: 0,
                 to: 0,
                 filled: end,
-            };
+            });
         }
         let to = feed_from(buffer, end, more);
         if to < more {
-            return Line {
+            return Ok(Line {
                 found: true,
                 from: 0,
                 to: to,
                 filled: more,
-            };
+            });
         }
         end = more;
     }

@@ -15,12 +15,12 @@ use crate::output::{flush, put_answer, put_end, put_line, put_record};
 use crate::parts::{Setting, set_guard, set_pool, set_set, set_states, set_worker};
 use crate::words::{Word, word_length, word_of};
 use pool::Pool;
-use std::num::wrapping_add_u64;
+use std::io;
 
 // The current record, the length of the lent list, how many calls were made, the place of the next line in the input buffer and how far that is
 // filled, and how far the output buffer is. `going` ends with the input, with a line that is not understood, or with results that could not
 // be written and are lost.
-#[derive(Drop)]
+#[derive(Clone, Copy)]
 struct Bench {
     going: bool,
     understood: bool,
@@ -123,7 +123,7 @@ impl Bench {
         let mut next = self.with_pool(after);
         next.written = to;
         // It never wraps: there are at most as many calls as lines.
-        next.calls = wrapping_add_u64(self.calls, 1);
+        next.calls = self.calls.wrapping_add(1);
         next
     }
 
@@ -159,75 +159,93 @@ impl Bench {
     }
 
     // Writes the results out where less than half the buffer is left.
-    fn with_room(mut self, out: &[u8]) -> Bench {
+    fn with_room(mut self, rt: &impl Print, out: &[u8]) -> io::Result<Bench> {
         if self.written <= HALF {
-            return self;
+            return Ok(self);
         }
-        let whole = flush(out, self.written);
+        let whole = flush(rt, out, self.written)?;
         self.going = whole;
         self.lost = !whole;
         self.written = 0;
-        self
+        Ok(self)
     }
 
     // Writes the last results out, and the line that says how the input ended. After lost results there is none, so whoever reads it knows
     // that all before it is there.
-    fn end(self, lines: u64, out: &mut [u8]) {
+    fn end(self, rt: &impl Print, lines: u64, out: &mut [u8]) -> io::Result<()> {
         if self.lost {
-            return;
+            return Ok(());
         }
-        if self.understood {
-            let to = put_end(out, self.written, b"calls", self.calls, b"\n");
-            flush(out, to);
+        let to = if self.understood {
+            put_end(out, self.written, b"calls", self.calls, b"\n")
         } else {
-            let to = put_end(out, self.written, b"line", lines, b" not understood\n");
-            flush(out, to);
-        }
+            put_end(out, self.written, b"line", lines, b" not understood\n")
+        };
+        flush(rt, out, to)?;
+        Ok(())
     }
 
     // The next line of the input. Where the input ends, nothing may be left of a line without its end.
-    fn next(
+    fn next<R: io::Read>(
         mut self,
+        rt: &impl Print,
+        source: &mut R,
         input: &mut [u8],
         numbers: &mut [u32],
         list: &mut [u32],
         out: &mut [u8],
-    ) -> Bench {
-        let line = next_line(input, self.at, self.filled);
+    ) -> io::Result<Bench> {
+        let line = next_line(source, input, self.at, self.filled)?;
         let from = line.from;
         let to = line.to;
         if !line.found {
             self.going = false;
             self.understood = line.filled == 0;
-            return self;
+            return Ok(self);
         }
         self.at = to + 1;
         self.filled = line.filled;
-        let ready = self.with_room(out);
+        let ready = self.with_room(rt, out)?;
         if ready.lost {
-            return ready;
+            return Ok(ready);
         }
-        ready.line(&input[from..to], numbers, list, out)
+        Ok(ready.line(&input[from..to], numbers, list, out))
     }
 }
 
 // The lines one by one.
-fn all_lines(input: &mut [u8], numbers: &mut [u32], list: &mut [u32], out: &mut [u8]) {
+fn all_lines<R: io::Read>(
+    rt: &impl Print,
+    source: &mut R,
+    input: &mut [u8],
+    numbers: &mut [u32],
+    list: &mut [u32],
+    out: &mut [u8],
+) -> io::Result<()> {
     let mut bench = Bench::new();
     let mut lines: u64 = 0;
     while lines < MOST_LINES {
         if !bench.going {
-            return bench.end(lines, out);
+            return bench.end(rt, lines, out);
         }
-        bench = bench.next(input, numbers, list, out);
+        bench = bench.next(rt, source, input, numbers, list, out)?;
         lines += 1;
     }
+    Ok(())
 }
 
-fn main() {
-    let mut input = io::large_buffer();
-    let mut out = io::large_buffer();
+fn main(rt: HostRuntime) -> io::Result<()> {
+    let mut input = [0u8; 65536];
+    let mut out = [0u8; 65536];
     let mut numbers = [0u32; 600];
     let mut list = [0u32; 600];
-    all_lines(&mut input, &mut numbers, &mut list, &mut out);
+    let mut source = rt.reader();
+    all_lines(
+        &rt,
+        &mut source,
+        &mut input,
+        &mut numbers,
+        &mut list,
+        &mut out,
+    )
 }

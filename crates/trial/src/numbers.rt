@@ -2,14 +2,14 @@
 ghost use Rattle.std.specs.Prelude.{◌≡◌, ◌≤◌, length};
 
 // How many numbers a line has, if it has the form.
-#[derive(Drop)]
+#[derive(Clone, Copy)]
 pub struct Numbers {
     pub understood: bool,
     pub count: usize,
 }
 
 // One number: its value, and the place after its last digit. A place that did not move says that no number stands there.
-#[derive(Drop)]
+#[derive(Clone, Copy)]
 struct Number {
     value: u32,
     after: usize,

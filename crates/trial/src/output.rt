@@ -3,7 +3,6 @@
 ghost use Rattle.std.specs.Prelude.{◌≤◌};
 
 use idset::IdSet;
-use libc::STDOUT_FILENO;
 use pool::{Answer, Pool};
 use worker::Worker;
 
@@ -205,9 +204,10 @@ pub fn put_end(out: &mut [u8], at: usize, word: &[u8], n: u64, rest: &[u8]) -> u
 }
 
 // Writes what the buffer has up to a place, and answers whether all of it was written.
-pub fn flush(out: &[u8], at: usize) -> bool {
+pub fn flush(rt: &impl Print, out: &[u8], at: usize) -> std::io::Result<bool> {
     if out.len() < at {
-        return false;
+        return Ok(false);
     }
-    io::write_all(STDOUT_FILENO, &out[..at])
+    rt.write_all(&out[..at])?;
+    Ok(true)
 }

@@ -5,7 +5,7 @@ use idset::IdSet;
 use pool::Pool;
 use worker::{Slot, Worker};
 
-#[derive(Drop)]
+#[derive(Clone, Copy)]
 pub struct Setting {
     pub understood: bool,
     pub pool: Pool,

@@ -2,7 +2,7 @@
 ghost use Rattle.std.specs.Prelude.{◌≤◌, length};
 
 // What a line sets, or which call it makes.
-#[derive(Drop)]
+#[derive(Clone, Copy)]
 pub enum Word {
     Pool,
     Guard,
