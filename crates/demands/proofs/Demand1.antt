@@ -2,7 +2,7 @@
 use mathlib.Core.Path.{sym, ap, ◌∙◌}
 use Rattle.pool.specs.Answers.{Told}
 use Rattle.rules.proofs.Refused.{refused-unchanged}
-use Rattle.demands.specs.Contracts.{NothingAsked}
+use Rattle.demands.specs.Allowed.{NothingAsked}
 use Rattle.demands.specs.Demands.{Demand1}
 use Rattle.demands.proofs.OneToOne.{same_answer, same_outcome, same-verdict}
 use Rattle.demands.proofs.Steps.{stepped, left, answered}

@@ -6,7 +6,7 @@ use Rattle.pool.specs.Answers.{Check, refuse, Told}
 use Rattle.pool.proofs.Checked.{sound_of_lem, sound_passes}
 use Rattle.rules.specs.Unsound.{Breaks, Names}
 use Rattle.rules.proofs.Unsound.{unsound-sentences}
-use Rattle.demands.specs.Contracts.{Question, set-size, leaving_count, audit}
+use Rattle.demands.specs.Allowed.{Question, set-size, leaving_count, audit}
 use Rattle.demands.specs.Demands.{question_of, Request101}
 use Rattle.demands.proofs.Steps.{stepped, answered}
 

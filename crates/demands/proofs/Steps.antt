@@ -9,7 +9,7 @@ use Rattle.pool.specs.Answers.{Told, said, told}
 use Rattle.pool.specs.Begins.{give_up_of}
 use Rattle.pool.specs.Steps.{advance_of, list_after}
 use Rattle.rules.specs.Calls.{Call, call, list_of}
-use Rattle.demands.specs.Contracts.{worker, Allows, hires, fires, posts, gives_up, takes, asks, advances, Question, Answers, size-said, count_said, audit-said}
+use Rattle.demands.specs.Allowed.{worker, Allows, hires, fires, posts, gives_up, takes, asks, advances, Question, Answers, size-said, count_said, audit-said}
 use Rattle.demands.specs.Demands.{question_of}
 
 pub stepped : (c : Call) (p : Pool) (r : Outcome) (list : List ℕ) → Allows p r c list → (told r ≡ call c p) × (list ≡ list_of c p)

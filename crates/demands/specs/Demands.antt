@@ -1,4 +1,4 @@
--- What Sorkhabin promises, on one page: the three demands and what later requests add, each a statement about the contracts of the engine's public functions (`Contracts`).
+-- What Sorkhabin promises, on one page: the three demands and what later requests add, each a statement about the contracts of the engine's public functions (`Allowed`).
 -- The functions of src/lib.rt promise these statements, so one that is not shown, or only in part, fails the check of this crate.
 use Rattle.std.specs.Prelude.{ℕ, ◌-◌, ◌≤◌, ◌≡◌, ◌↔◌, true, false, List, [], ◌++◌}
 use Rattle.basics.specs.Among.{among_first}
@@ -32,7 +32,7 @@ use Rattle.schedule.specs.Read.{calls, read_of}
 use Rattle.schedule.specs.Examples.{Examples}
 use Rattle.player.specs.Transcript.{unrolled, printed_from, transcript}
 use Rattle.demands.specs.Schedules.{Prints, NothingAskedToPlay}
-use Rattle.demands.specs.Contracts.{worker, Allows, Makes, Question, set-size, leaving_count, audit, Answers, Tests, Blanks, Numbers, NothingAsked}
+use Rattle.demands.specs.Allowed.{worker, Allows, Makes, Question, set-size, leaving_count, audit, Answers, Tests, Blanks, Numbers, NothingAsked}
 use Rattle.demands.specs.Runs.{Ran, FromMaking, IsRun}
 
 -- ---- 1: any record, any arguments; a refusal changes nothing; the promise determines the result

@@ -8,7 +8,7 @@ use Rattle.rules.specs.Calls.{advancing, Seen}
 use Rattle.history.specs.Counts.{in_slots, in_sets}
 use Rattle.history.specs.History.{history_after, fresh}
 use Rattle.history.specs.Runs.{times_placed}
-use Rattle.demands.specs.Contracts.{Allows}
+use Rattle.demands.specs.Allowed.{Allows}
 use Rattle.demands.specs.Runs.{FromMaking}
 
 -- while guard i holds buffer id, no advance of worker v hands it back

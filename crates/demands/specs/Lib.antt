@@ -1,5 +1,6 @@
 -- What is promised, on one page (`Demands`), over the engine's contracts.
-pub mod Contracts
+pub mod Promises
+pub mod Allowed
 pub mod Runs
 pub mod Schedules
 pub mod Demands

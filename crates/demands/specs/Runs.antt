@@ -5,7 +5,7 @@ use Rattle.pool.specs.declared.Answer.{Answer}
 use Rattle.pool.specs.declared.Outcome.{Outcome}
 use Rattle.pool.specs.Answers.{said, accepted}
 use Rattle.rules.specs.Calls.{Call, after, Seen, seen}
-use Rattle.demands.specs.Contracts.{Allows, Makes, Question, Answers}
+use Rattle.demands.specs.Allowed.{Allows, Makes, Question, Answers}
 
 -- what the caller saw of call c
 abbrev pub saw : Call → Outcome → List ℕ → Seen

@@ -1,14 +1,12 @@
 -- Schedules read and played by the libraries' public functions, each with a result that its contract allows; and what a program that does so prints.
 use Rattle.std.specs.Prelude.{ℕ, ◌+◌, ◌≡◌, List, [], ◌∷◌, ◌++◌, length, take}
-use Rattle.std.specs.Borrow.{Bor}
+use Rattle.std.specs.Borrow.{Bor, MutBor}
 use contract.Lifetimes.{Lfts}
 use Rattle.pool.specs.declared.Pool.{Pool}
 use Rattle.schedule.specs.declared.Read.{Read}
 use Rattle.schedule.specs.declared.Read.TheVariants.{TooLong, BadLine, Calls}
-use Rattle.schedule.proofs.unroll.Reads as Unroll
 use Rattle.player.specs.declared.Turn.{Turn}
-use Rattle.player.proofs.play_line.Reads as PlayLine
-use Rattle.player.proofs.put_read.Reads as PutRead
+use Rattle.demands.specs.Promises.{UnrollPre, UnrollPost, PlayLinePre, PlayLinePost, PutReadPre, PutReadPost}
 
 -- ---- the three functions, wherever the bytes and the tables stand and however long they are lent
 
@@ -16,9 +14,9 @@ use Rattle.player.proofs.put_read.Reads as PutRead
 pub record Unrolls (s : List ℕ) (r : Read) (left : List ℕ) : Type 0 where
   pub lifetimes : Lfts 2
   pub text : Bor (List ℕ)
-  pub table : Bor (List ℕ)
+  pub table : MutBor (List ℕ)
   pub at_exit : _
-  pub allowed : Unroll.Post lifetimes (text, (table, tt)) r at_exit
+  pub allowed : UnrollPost lifetimes (text, (table, tt)) r at_exit
   pub text_so : text.now ≡ s
   pub room : length table.now ≡ 100000
   pub left_so : at_exit.1.0.now ≡ left
@@ -27,9 +25,9 @@ pub record Unrolls (s : List ℕ) (r : Read) (left : List ℕ) : Type 0 where
 pub record PlaysLine (s : List ℕ) (place k : ℕ) (p : Pool) (r : Turn) (bytes : List ℕ) : Type 0 where
   pub lifetimes : Lfts 2
   pub text : Bor (List ℕ)
-  pub out : Bor (List ℕ)
+  pub out : MutBor (List ℕ)
   pub at_exit : _
-  pub allowed : PlayLine.Post lifetimes (text, (place, (k, (p, (out, tt))))) r at_exit
+  pub allowed : PlayLinePost lifetimes (text, (place, (k, (p, (out, tt))))) r at_exit
   pub text_so : text.now ≡ s
   pub room : length out.now ≡ 8192
   pub bytes_so : take r.written at_exit.1.1.1.1.0.now ≡ bytes
@@ -37,10 +35,10 @@ pub record PlaysLine (s : List ℕ) (place k : ℕ) (p : Pool) (r : Turn) (bytes
 -- what is printed of a text that is read so
 pub record Judges (r : Read) (bytes : List ℕ) : Type 0 where
   pub lifetimes : Lfts 1
-  pub out : Bor (List ℕ)
+  pub out : MutBor (List ℕ)
   pub written : ℕ
   pub at_exit : _
-  pub allowed : PutRead.Post lifetimes (r, (out, tt)) written at_exit
+  pub allowed : PutReadPost lifetimes (r, (out, tt)) written at_exit
   pub room : length out.now ≡ 8192
   pub bytes_so : take written at_exit.1.0.now ≡ bytes
 
@@ -61,6 +59,6 @@ pub data Prints (s : List ℕ) : List ℕ → Type 0 where
 -- ---- what is asked of the caller: nothing
 
 pub record NothingAskedToPlay : Type 0 where
-  pub unroll : (κs : Lfts 2) (text table : Bor (List ℕ)) → Unroll.Pre κs (text, (table, tt))
-  pub play_line : (κs : Lfts 2) (text : Bor (List ℕ)) (place k : ℕ) (p : Pool) (out : Bor (List ℕ)) → PlayLine.Pre κs (text, (place, (k, (p, (out, tt)))))
-  pub put_read : (κs : Lfts 1) (r : Read) (out : Bor (List ℕ)) → PutRead.Pre κs (r, (out, tt))
+  pub unroll : (κs : Lfts 2) (text : Bor (List ℕ)) (table : MutBor (List ℕ)) → UnrollPre κs (text, (table, tt))
+  pub play_line : (κs : Lfts 2) (text : Bor (List ℕ)) (place k : ℕ) (p : Pool) (out : MutBor (List ℕ)) → PlayLinePre κs (text, (place, (k, (p, (out, tt)))))
+  pub put_read : (κs : Lfts 1) (r : Read) (out : MutBor (List ℕ)) → PutReadPre κs (r, (out, tt))

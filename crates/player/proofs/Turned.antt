@@ -18,7 +18,7 @@ use Rattle.grammar.proofs.Lawful.{numbers_few}
 use Rattle.printed.specs.Printed.{line_for}
 use Rattle.printed.proofs.Laws.{line_fits}
 use Rattle.player.specs.declared.Turn.{Turn}
-use Rattle.player.specs.Turns.{Deed, calls, nothing, deed_of, deed_at, Played, says, turn_of, turn_at, turned}
+use Rattle.player.specs.Turns.{Deed, nothing, deed_of, deed_at, Played, says, turn_of, turn_at, turned}
 
 line_within : (n k : ℕ) (a : Said) (l : List ℕ) → n ≡ length (line_for k a l) → length l ≤ 256 → n ≤ 8192
 line_within n k a l e h = omega (arith, e, line_fits k a l h)

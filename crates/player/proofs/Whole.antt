@@ -15,7 +15,7 @@ use Rattle.grammar.specs.declared.Kind.TheVariants as are
 use Rattle.grammar.specs.Line.{line_of, numbers_at, kind, kind_of}
 use Rattle.schedule.specs.Read.{calls as reading, read_of, CallsAt, Faultless}
 use Rattle.schedule.proofs.Called.{faultless}
-use Rattle.player.specs.Turns.{Deed, makes, calls, nothing, deed_of, deed_at, Played, turn_of, turn_at}
+use Rattle.player.specs.Turns.{Deed, makes, calls, deed_of, deed_at, Played, turn_of, turn_at}
 use Rattle.player.specs.Transcript.{call_in, unrolled, printed_from, played_from, transcript, turns_from}
 
 -- what a line does that makes the pool, and one that is a call

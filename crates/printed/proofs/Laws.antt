@@ -99,8 +99,12 @@ module _ (t₀ : List ℕ) (k : ℕ) (s t : List ℕ) (i : ℕ) (h : Left t₀ k
 -- ---- a number written
 
 module _ (n : ℕ) (h : n < 10) where
-  pub one-length : length (decimal n) ≡ 1
-  one-length = rw (decimal-one n h)
+  pub one_length : length (decimal n) ≡ 1
+  one_length = rw (decimal-one n h)
+
+  -- one digit, written
+  pub one_written : (t : List ℕ) (at : ℕ) → write_at t at (decimal n) ≡ set t at (48 + n)
+  one_written t at = rw (decimal-one n h) (write_one t at (48 + n))
 
   pub one-put : (t w : List ℕ) (at r : ℕ) → r ≡ at + 1 → w ≡ set t at (48 + n) → (r ≡ at + length (decimal n)) × (w ≡ write_at t at (decimal n))
   one-put t w at r p q = rw (decimal-one n h) (p, q ∙ sym (write_one t at (48 + n)))

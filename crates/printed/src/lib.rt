@@ -32,6 +32,7 @@ fn put_digit(out: &mut [u8], at: usize, d: usize) -> usize
 }
 
 // The digits of n / 10 come first, then its last one.
+#[tactic(auto, using(crate::proofs::Laws::one_length, crate::proofs::Laws::one_written))]
 pub fn put_number(out: &mut [u8], at: usize, n: usize) -> usize
     requires { at + length (decimal n) ≤ length out.old }
     ensures value { result ≡ at + length (decimal n) }
@@ -93,6 +94,7 @@ fn put_two(out: &mut [u8], at: usize, word: &[u8], m: usize, n: usize) -> usize
 }
 
 // An answer, with the ids of the list that the call was lent.
+#[tactic(auto, unfolding(crate::specs::Printed::in_words))]
 fn put_answer(out: &mut [u8], at: usize, answer: Answer, ids: &[u32]) -> usize
     requires { at + length (in_words (said answer) ids.now) ≤ length out.old }
     ensures value { result ≡ at + length (in_words (said answer) ids.now) }
