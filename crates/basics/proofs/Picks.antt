@@ -36,15 +36,15 @@ module _ {ℓ} {A : Type ℓ} where
   unless_both P false a b f g = f refl
 
   -- what a choice that came out as x tells of its test, where the other arm is not x
-  pub when-back : (t : Bool) (x a b : A) → (a ≡ x → ⊥) → when t a b ≡ x → (t ≡ false) × (b ≡ x)
+  pub when_back : (t : Bool) (x a b : A) → (a ≡ x → ⊥) → when t a b ≡ x → (t ≡ false) × (b ≡ x)
   unfolding when
-  when-back false x a b n h = (refl, h)
-  when-back true x a b n h = absurd (n h)
+  when_back false x a b n h = (refl, h)
+  when_back true x a b n h = absurd (n h)
 
-  pub unless-back : (t : Bool) (x a b : A) → (a ≡ x → ⊥) → unless t a b ≡ x → (t ≡ true) × (b ≡ x)
+  pub unless_back : (t : Bool) (x a b : A) → (a ≡ x → ⊥) → unless t a b ≡ x → (t ≡ true) × (b ≡ x)
   unfolding unless
-  unless-back true x a b n h = (refl, h)
-  unless-back false x a b n h = absurd (n h)
+  unless_back true x a b n h = (refl, h)
+  unless_back false x a b n h = absurd (n h)
 
 -- a call's answer r is the test s by what the call ensures, and a branch told r
 pub told : (r s t : Bool) → r ≡ s → r ≡ t → s ≡ t
@@ -60,8 +60,8 @@ told_not_not r s p q = sym p ∙ not-false r q
 pub told_zero : (n m : ℕ) → n ≡ m → n ≡ 0 → eqb m 0 ≡ true
 told_zero n m p q = eq-eqb m 0 (sym p ∙ q)
 
-pub told-some : (n m : ℕ) → n ≡ m → (n ≡ 0 → ⊥) → eqb m 0 ≡ false
-told-some n m p q = ne_eqb m 0 (λ e. q (p ∙ e))
+pub told_some : (n m : ℕ) → n ≡ m → (n ≡ 0 → ⊥) → eqb m 0 ≡ false
+told_some n m p q = ne_eqb m 0 (λ e. q (p ∙ e))
 
 pub told_lt : (a n m : ℕ) → n ≡ m → a < n → ltb a m ≡ true
 told_lt a n m e h = rw (← e) (lt-ltb a n h)
@@ -69,4 +69,4 @@ told_lt a n m e h = rw (← e) (lt-ltb a n h)
 pub told_ge : (a n m : ℕ) → n ≡ m → n ≤ a → ltb a m ≡ false
 told_ge a n m e h = rw (← e) (le-ltb a n h)
 
-pub ruleset picks = (when_yes, when_no, unless_yes, unless_no, lt-ltb, le-ltb, le-leb, lt-leb, eq-eqb, ne_eqb, told, told_not, told_not_not, told_zero, told-some, told_lt, told_ge)
+pub ruleset picks = (when_yes, when_no, unless_yes, unless_no, lt-ltb, le-ltb, le-leb, lt-leb, eq-eqb, ne_eqb, told, told_not, told_not_not, told_zero, told_some, told_lt, told_ge)

@@ -9,10 +9,10 @@ use Rattle.basics.specs.Below.{table}
 use Rattle.basics.proofs.Truth.{by_order}
 
 module _ {A : Type 0} where
-  pub table-length : (n : ℕ) (f : ℕ → A) → length (table n f) ≡ n
+  pub table_length : (n : ℕ) (f : ℕ → A) → length (table n f) ≡ n
   unfolding table
-  table-length zero f = refl
-  table-length (suc n) f = length-append (table n f) (f n ∷ []) ∙ omega (arith, table-length n f)
+  table_length zero f = refl
+  table_length (suc n) f = length-append (table n f) (f n ∷ []) ∙ omega (arith, table_length n f)
 
   pub table_at : (n : ℕ) (f : ℕ → A) (i : ℕ) (d : A) → i < n → get_or (table n f) i d ≡ f i
   unfolding table
@@ -20,15 +20,15 @@ module _ {A : Type 0} where
   table_at (suc n) f i d l =
       by_order n i
       (λ h. let q : i ≡ n + 0 = omega arith in
-      let e : length (table n f) + 0 ≡ n + 0 = ap (λ (m : ℕ). m + 0) (table-length n f) in
+      let e : length (table n f) + 0 ≡ n + 0 = ap (λ (m : ℕ). m + 0) (table_length n f) in
       ap (λ (m : ℕ). get_or (table n f ++ (f n ∷ [])) m d) (q ∙ sym e) ∙ get_or-append-add (table n f) (f n ∷ []) 0 d
       ∙ ap f (omega arith))
-      (λ h. get_or-append (table n f) (f n ∷ []) d i (subst (λ (m : ℕ). i < m) (sym (table-length n f)) h) ∙ table_at n f i d h)
+      (λ h. get_or-append (table n f) (f n ∷ []) d i (subst (λ (m : ℕ). i < m) (sym (table_length n f)) h) ∙ table_at n f i d h)
 
   -- a list of n entries, each as f says
   pub table_is : (n : ℕ) (f : ℕ → A) (l : List A) (d : A) → length l ≡ n → ((i : ℕ) → i < n → get_or l i d ≡ f i) → l ≡ table n f
   table_is n f l d e h =
-      ext_get_or d l (table n f) (e ∙ sym (table-length n f)) (λ i b.
+      ext_get_or d l (table n f) (e ∙ sym (table_length n f)) (λ i b.
       let lt : i < n = subst (λ (m : ℕ). i < m) e b in
       h i lt ∙ sym (table_at n f i d lt))
 

@@ -12,7 +12,7 @@ use Rattle.pool.specs.declared.Verdict.{Verdict}
 use Rattle.pool.specs.declared.Verdict.TheVariants.{Fine, Fault as Faulty}
 use Rattle.pool.specs.declared.Answer.{Answer}
 use Rattle.pool.specs.declared.Answer.TheVariants.{Accepted, Yes, No, At, Hired, NoneFound, Fired, Posted, Back, Count, Clear, Fault, Refused}
-use Rattle.pool.specs.Answers.{Check, fine, refuse, verdict, Said, Told, number_of, said, told, accepted, yes, no, None-found, fired, posted, clear, label, guard, back, count, fault, refused}
+use Rattle.pool.specs.Answers.{Check, fine, refuse, verdict, Said, Told, number_of, said, told, accepted, yes, no, none_found, fired, posted, clear, label, guard, back, count, fault, refused}
 
 -- ---- from the paper's number and values back to the answer
 
@@ -49,7 +49,7 @@ answer_of : Said → Answer
 answer_of accepted = Accepted
 answer_of yes = Yes
 answer_of no = No
-answer_of None-found = NoneFound
+answer_of none_found = NoneFound
 answer_of fired = Fired
 answer_of posted = Posted
 answer_of clear = Clear
@@ -89,10 +89,10 @@ verdict_of : Check → Verdict
 verdict_of fine = Fine
 verdict_of (refuse n place) = Faulty (refusal_of n) place
 
-verdict-back : (v : Verdict) → verdict_of (verdict v) ≡ v
+verdict_back : (v : Verdict) → verdict_of (verdict v) ≡ v
 unfolding verdict_of
-verdict-back Fine = refl
-verdict-back (Faulty r place) = ap (λ (x : Refusal). Faulty x place) (refusal_back r)
+verdict_back Fine = refl
+verdict_back (Faulty r place) = ap (λ (x : Refusal). Faulty x place) (refusal_back r)
 
-pub same-verdict : (u v : Verdict) → verdict u ≡ verdict v → u ≡ v
-same-verdict u v e = sym (verdict-back u) ∙ ap verdict_of e ∙ verdict-back v
+pub same_verdict : (u v : Verdict) → verdict u ≡ verdict v → u ≡ v
+same_verdict u v e = sym (verdict_back u) ∙ ap verdict_of e ∙ verdict_back v

@@ -64,13 +64,13 @@ Makes w g b r = Promised (MakePost tt) (w, (g, (b, tt))) r
 -- ---- questions, which hand back only what they say
 
 pub data Question : Type 0 where
-  set-size : ℕ → Question
+  set_size : ℕ → Question
   leaving_count audit : Question
 
 pub data Answers (p : Pool) (a : Answer) : Question → Type 0 where
-  size-said : (w : ℕ) → Promised (SetSizePost tt) (p, (worker w, tt)) a → Answers p a (set-size w)
+  size_said : (w : ℕ) → Promised (SetSizePost tt) (p, (worker w, tt)) a → Answers p a (set_size w)
   count_said : Promised (LeavingCountPost tt) (p, tt) a → Answers p a leaving_count
-  audit-said : Promised (AuditPost tt) (p, tt) a → Answers p a audit
+  audit_said : Promised (AuditPost tt) (p, tt) a → Answers p a audit
 
 -- the test of a record, the record of given counts, and a refusal's number
 abbrev pub Tests : Pool → Verdict → Type 0
@@ -96,7 +96,7 @@ pub record NothingAsked : Type 0 where
   pub take : (p : Pool) (b : BufferId) → TakePre tt (p, (b, tt))
   pub ask : (p : Pool) (w : WorkerNo) (b : BufferId) → AskPre tt (p, (w, (b, tt)))
   pub advance : (κs : Lfts 1) (p : Pool) (w : WorkerNo) (out : MutBor (List ℕ)) → AdvancePre κs (p, (w, (out, tt)))
-  pub set-size : (p : Pool) (w : WorkerNo) → SetSizePre tt (p, (w, tt))
+  pub set_size : (p : Pool) (w : WorkerNo) → SetSizePre tt (p, (w, tt))
   pub leaving_count : (p : Pool) → LeavingCountPre tt (p, tt)
   pub audit : (p : Pool) → AuditPre tt (p, tt)
   pub number : (r : Refusal) → NumberPre tt (r, tt)

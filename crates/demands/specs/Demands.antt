@@ -32,7 +32,7 @@ use Rattle.schedule.specs.Read.{calls, read_of}
 use Rattle.schedule.specs.Examples.{Examples}
 use Rattle.player.specs.Transcript.{unrolled, printed_from, transcript}
 use Rattle.demands.specs.Schedules.{Prints, NothingAskedToPlay}
-use Rattle.demands.specs.Allowed.{worker, Allows, Makes, Question, set-size, leaving_count, audit, Answers, Tests, Blanks, Numbers, NothingAsked}
+use Rattle.demands.specs.Allowed.{worker, Allows, Makes, Question, set_size, leaving_count, audit, Answers, Tests, Blanks, Numbers, NothingAsked}
 use Rattle.demands.specs.Runs.{Ran, FromMaking, IsRun}
 
 -- ---- 1: any record, any arguments; a refusal changes nothing; the promise determines the result
@@ -45,16 +45,16 @@ pub record Demand1 : Type 0 where
       → (r.pool ≡ p) × (list ≡ lent_to c)
   -- two results that a contract allows, of the same record and arguments, coincide: answer, record and lent list
   pub one_outcome : (c : Call) (p : Pool) (r s : Outcome) (l m : List ℕ) → Allows p r c l → Allows p s c m → (r ≡ s) × (l ≡ m)
-  pub one-made : (w g b : ℕ) (r s : Outcome) → Makes w g b r → Makes w g b s → r ≡ s
+  pub one_made : (w g b : ℕ) (r s : Outcome) → Makes w g b r → Makes w g b s → r ≡ s
   pub one_answer : (x : Question) (p : Pool) (a b : Answer) → Answers p a x → Answers p b x → a ≡ b
-  pub one-test : (p : Pool) (u v : Verdict) → Tests p u → Tests p v → u ≡ v
-  pub one-blank : (w g b : ℕ) (p q : Pool) → Blanks w g b p → Blanks w g b q → p ≡ q
+  pub one_test : (p : Pool) (u v : Verdict) → Tests p u → Tests p v → u ≡ v
+  pub one_blank : (w g b : ℕ) (p q : Pool) → Blanks w g b p → Blanks w g b q → p ≡ q
   pub one_number : (r : Refusal) (m n : ℕ) → Numbers r m → Numbers r n → m ≡ n
 
 -- ---- 2: each result is the paper's step
 
 abbrev pub question_of : Question → Pool → Said
-question_of (set-size w) p = set_size_of p (worker w)
+question_of (set_size w) p = set_size_of p (worker w)
 question_of leaving_count p = leaving_count_of p
 question_of audit p = audit_of p
 
@@ -70,17 +70,17 @@ pub record Demand2 : Type 0 where
   pub made : (w g b : ℕ) (r : Outcome) → Makes w g b r → in_range w g b ≡ true → (said r.answer ≡ accepted) × Fresh w g b r.pool × (sound_of r.pool ≡ true)
   pub not_made : (w g b : ℕ) (r : Outcome) → Makes w g b r → in_range w g b ≡ false → (said r.answer ≡ refused 1 0) × Fresh 0 0 0 r.pool × (sound_of r.pool ≡ false)
   -- a sound record stays sound; every array has its length from the making on, and no call changes it
-  pub kept-sound : (c : Call) (p : Pool) (r : Outcome) (list : List ℕ) → Allows p r c list → sound_of p ≡ true → sound_of r.pool ≡ true
+  pub kept_sound : (c : Call) (p : Pool) (r : Outcome) (list : List ℕ) → Allows p r c list → sound_of p ≡ true → sound_of r.pool ≡ true
   pub made_shape : (w g b : ℕ) (r : Outcome) → Makes w g b r → Shaped r.pool
   pub kept_shape : (c : Call) (p : Pool) (r : Outcome) (list : List ℕ) → Allows p r c list → Shaped p → Shaped r.pool
   -- what an advance of worker w leaves as it was
   pub frame : (w : ℕ) (out list : List ℕ) (p : Pool) (r : Outcome) → Allows p r (advancing w out) list → Frame p (w - 1) r.pool
-  pub list-frame : (w : ℕ) (out list : List ℕ) (p : Pool) (r : Outcome) → Allows p r (advancing w out) list → ((worker_at p (w - 1)).label ≡ 32 → ⊥) → list ≡ out
+  pub list_frame : (w : ℕ) (out list : List ℕ) (p : Pool) (r : Outcome) → Allows p r (advancing w out) list → ((worker_at p (w - 1)).label ≡ 32 → ⊥) → list ≡ out
   -- the paper's starred cases, and its sentences on single calls, hold of these steps
   pub cases : Hold starred
   pub sentences : Sentences
   -- one worker's registers lent alone are advanced as in the whole record
-  pub lent-alone : Lent
+  pub lent_alone : Lent
 
 -- ---- 3: whatever is called from a made pool on
 
@@ -103,7 +103,7 @@ pub record Demand3 : Type 0 where
 pub record Request101 : Type 0 where
   -- the public test finds that rule and place, and nothing exactly where the record is sound
   pub found : (p : Pool) (v : Verdict) → Tests p v → (n place : ℕ) → (verdict v ≡ refuse n place) ↔ Breaks p n place
-  pub nothing-found : (p : Pool) (v : Verdict) → Tests p v → (verdict v ≡ fine) ↔ (sound_of p ≡ true)
+  pub nothing_found : (p : Pool) (v : Verdict) → Tests p v → (verdict v ≡ fine) ↔ (sound_of p ≡ true)
   -- every call and every question passes it on, and says 21 or more for nothing else
   pub calls : (c : Call) (p : Pool) (r : Outcome) (list : List ℕ) → Allows p r c list → Names p (said r.answer)
   pub questions : (x : Question) (p : Pool) (a : Answer) → Answers p a x → Names p (said a)

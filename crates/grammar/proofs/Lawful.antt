@@ -21,7 +21,7 @@ use Rattle.grammar.specs.declared.numbers.Number.TheVariants.{Value, No}
 use Rattle.grammar.specs.Words.{span, on_first, words, unpadded, number_of, before, numbers_of, all_numbers}
 use Rattle.grammar.specs.Line.{stop_of, line_by, line_of_words, line_of, verb_of, words_at, numbers_in, numbers_at, kind, kind_of}
 use Rattle.grammar.proofs.Laws.{stop_of_within}
-use Rattle.grammar.proofs.Spans.{span-length}
+use Rattle.grammar.proofs.Spans.{span_length}
 
 -- a line with n numbers
 abbrev Lawful : ℕ → Line → Type 0
@@ -136,4 +136,4 @@ numbers_few s at h = few (words_at s at) (parted_words (span s at (stop_of s at 
     few (w ∷ ws) p = after_word (cons_parted w ws ∙ p) (numbers_parted ws)
       where
         after_word : length w + 1 + parted ws ≡ length (span s at (stop_of s at - at)) + 1 → 2 * length (numbers_of ws) ≤ parted ws → 2 * length (numbers_of ws) ≤ length s
-        after_word p q = omega (arith, p, q, span-length s at (stop_of s at - at), stop_of_within s at h)
+        after_word p q = omega (arith, p, q, span_length s at (stop_of s at - at), stop_of_within s at h)

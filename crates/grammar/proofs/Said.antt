@@ -16,7 +16,7 @@ use Rattle.grammar.specs.declared.names.Verb.{Verb}
 use Rattle.grammar.specs.Line.{stop_of, line_by, line_from, line_of, verb_of, numbers_at}
 use Rattle.grammar.specs.Words.{span, words, word_length, words_after, numbers_of, all_numbers, tell_numbers}
 use Rattle.grammar.proofs.Laws.{stop_of_within}
-use Rattle.grammar.proofs.Spans.{words-to, word_within}
+use Rattle.grammar.proofs.Spans.{words_to, word_within}
 
 -- the first three of the numbers, in a list of three zeros
 first_three : (l : List ℕ) → write_at (0 ∷ 0 ∷ 0 ∷ []) 0 l ≡ get_or l 0 0 ∷ get_or l 1 0 ∷ get_or l 2 0 ∷ []
@@ -39,7 +39,7 @@ module _ (s : List ℕ) (at e : ℕ) (h : at ≤ length s) (p : e ≡ stop_of s 
     first_within = word_within s at e w line_within.0 q
 
     line_words : words (span s at (e - at)) ≡ span s at (w - at) ∷ words_after (span s w (e - w))
-    line_words = words-to s at e w q
+    line_words = words_to s at e w q
 
     pub line_numbers : numbers_of (words_after (span s w (e - w))) ≡ numbers_at s at
     unfolding numbers_at

@@ -25,10 +25,10 @@ span_none : (s : List ℕ) (i e : ℕ) → e ≤ i → span s i (e - i) ≡ []
 unfolding span
 span_none s i e h = let z : e - i ≡ 0 = omega arith in rw z
 
-pub span-length : (s : List ℕ) (i k : ℕ) → length (span s i k) ≡ k
+pub span_length : (s : List ℕ) (i k : ℕ) → length (span s i k) ≡ k
 unfolding span
-span-length s i zero = refl
-span-length s i (suc k) = ap suc (span-length s (i + 1) k)
+span_length s i zero = refl
+span_length s i (suc k) = ap suc (span_length s (i + 1) k)
 
 -- the end of a word
 module _ (s : List ℕ) (e j x : ℕ) where
@@ -52,7 +52,7 @@ word_length_le [] = omega arith
 word_length_le (b ∷ l) = when_both (λ (r : ℕ). r ≤ suc (length l)) (eqb b 32) 0 (suc (word_length l)) (λ _. omega arith) (λ _. omega (arith, word_length_le l))
 
 pub word_within : (s : List ℕ) (i e j : ℕ) → i ≤ e → j ≡ i + word_length (span s i (e - i)) → (i ≤ j) × (j ≤ e)
-word_within s i e j h p = omega (arith, p, word_length_le (span s i (e - i)), span-length s i (e - i))
+word_within s i e j h p = omega (arith, p, word_length_le (span s i (e - i)), span_length s i (e - i))
 
 -- a line's first word, and those after it
 abbrev Split : ℕ → List ℕ → ℕ → Type 0
@@ -72,8 +72,8 @@ words_split zero s i = refl
 words_split (suc k) s i = split_more k s i (eqb (get_or s i 0) 32) refl (words_split k s (i + 1))
 
 -- the same, by the places where the line and its first word end
-pub words-to : (s : List ℕ) (i e w : ℕ) → w ≡ i + word_length (span s i (e - i)) → words (span s i (e - i)) ≡ span s i (w - i) ∷ words_after (span s w (e - w))
-words-to s i e w q =
+pub words_to : (s : List ℕ) (i e w : ℕ) → w ≡ i + word_length (span s i (e - i)) → words (span s i (e - i)) ≡ span s i (w - i) ∷ words_after (span s w (e - w))
+words_to s i e w q =
     let a : w - i ≡ word_length (span s i (e - i)) = omega (arith, q) in
     let b : e - i - word_length (span s i (e - i)) ≡ e - w = omega (arith, q) in
     rw (a, words_split (e - i) s i, b, ← q)
@@ -121,9 +121,9 @@ module _ (w : List ℕ) where
   unfolding number_of when
   number_padded e = rw e
 
-  pub number-other : digits w ≡ false → No ≡ number_of w
+  pub number_other : digits w ≡ false → No ≡ number_of w
   unfolding number_of
-  number-other e = refused (unpadded w) (digits w && leb (value 0 w) 4294967295) (value 0 w) (rw e)
+  number_other e = refused (unpadded w) (digits w && leb (value 0 w) 4294967295) (value 0 w) (rw e)
 
   pub number_large : 4294967295 < value 0 w → No ≡ number_of w
   unfolding number_of
@@ -137,9 +137,9 @@ pub unpadded_none : (s : List ℕ) (i j : ℕ) → i ≡ j → false ≡ unpadde
 unfolding unpadded
 unpadded_none s i j e = rw (span_none s i j (omega arith))
 
-pub unpadded-one : (s : List ℕ) (i j : ℕ) → i + 1 ≡ j → true ≡ unpadded (span s i (j - i))
+pub unpadded_one : (s : List ℕ) (i j : ℕ) → i + 1 ≡ j → true ≡ unpadded (span s i (j - i))
 unfolding unpadded
-unpadded-one s i j e = rw (span_cons s i j (omega arith), span_none s (i + 1) j (omega arith))
+unpadded_one s i j e = rw (span_cons s i j (omega arith), span_none s (i + 1) j (omega arith))
 
 pub unpadded_more : (s : List ℕ) (i j : ℕ) → i + 1 < j → not (eqb (get_or s i 0) 48) ≡ unpadded (span s i (j - i))
 unfolding unpadded
@@ -149,12 +149,12 @@ unpadded_more s i j h = rw (span_cons s i j (omega arith), span_cons s (i + 1) j
 abbrev pub tell_from : ℕ → List (List ℕ) → Numbers
 tell_from n ws = record { count = n + length (numbers_of ws); all = all_numbers ws }
 
-pub tell-first : (ws : List (List ℕ)) → tell_from 0 ws ≡ tell_numbers ws
-tell-first ws = let z : 0 + length (numbers_of ws) ≡ length (numbers_of ws) = omega arith in rw z
+pub tell_first : (ws : List (List ℕ)) → tell_from 0 ws ≡ tell_numbers ws
+tell_first ws = let z : 0 + length (numbers_of ws) ≡ length (numbers_of ws) = omega arith in rw z
 
 module _ (s : List ℕ) (e i j n : ℕ) (l : i < e) (p : j ≡ i + 1 + word_length (span s (i + 1) (e - (i + 1)))) where
   rest : words_after (span s i (e - i)) ≡ span s (i + 1) (j - (i + 1)) ∷ words_after (span s j (e - j))
-  rest = rw (span_cons s i e l) (words-to s (i + 1) e j p)
+  rest = rw (span_cons s i e l) (words_to s (i + 1) e j p)
 
   module _ (q : No ≡ number_of (span s (i + 1) (j - (i + 1)))) where
     none : numbers_of (words_after (span s i (e - i))) ≡ []
@@ -200,7 +200,7 @@ same_length (x ∷ a) [] h = refl
 same_length (x ∷ a) (y ∷ b) h = rw (← same_length a b (λ e. h (ap suc e))) (sym (and-false (eqb x y)))
 
 pub named_short : (s w : List ℕ) (i j : ℕ) → (j - i ≡ length w → ⊥) → false ≡ same (span s i (j - i)) (span w 0 (length w))
-named_short s w i j h = same_length (span s i (j - i)) (span w 0 (length w)) (λ e. h (sym (span-length s i (j - i)) ∙ (e ∙ span-length w 0 (length w))))
+named_short s w i j h = same_length (span s i (j - i)) (span w 0 (length w)) (λ e. h (sym (span_length s i (j - i)) ∙ (e ∙ span_length w 0 (length w))))
 
 module _ (s w : List ℕ) (i j q : ℕ) (x : Bool) (fits : j - i ≡ length w) (h : same (span s (i + q) (j - (i + q))) (span w q (length w - q)) ≡ x) where
   pub named_no : q < length w → (get_or s (i + q) 0 ≡ get_or w q 0 → ⊥) → false ≡ x
@@ -232,12 +232,12 @@ digit_from b h = leb-true 48 b (and_left (leb 48 b) (leb b 57) h)
 pub padded_told : (w : List ℕ) (r : Bool) → r ≡ unpadded w → not r ≡ true → No ≡ number_of w
 padded_told w r p e = number_padded w (sym p ∙ not-true r e)
 
-pub digit-told : (r : Bool) (b : ℕ) → r ≡ is_digit b → not r ≡ false → is_digit b ≡ true
-digit-told r b p e = sym p ∙ not-false r e
+pub digit_told : (r : Bool) (b : ℕ) → r ≡ is_digit b → not r ≡ false → is_digit b ≡ true
+digit_told r b p e = sym p ∙ not-false r e
 
 module _ (s : List ℕ) (i q j : ℕ) (r : Bool) (l : q < j) (p : r ≡ is_digit (get_or s q 0)) (d : digits (span s q (j - q)) ≡ digits (span s i (j - i))) where
-  pub other-told : not r ≡ true → No ≡ number_of (span s i (j - i))
-  other-told e = number-other (span s i (j - i)) (digits_off s q j l (digits (span s i (j - i))) (sym p ∙ not-true r e) d)
+  pub other_told : not r ≡ true → No ≡ number_of (span s i (j - i))
+  other_told e = number_other (span s i (j - i)) (digits_off s q j l (digits (span s i (j - i))) (sym p ∙ not-true r e) d)
 
   module _ (e : not r ≡ false) (v u : ℕ) (h : u ≡ v * 10 + (get_or s q 0 - 48)) (x : value v (span s q (j - q)) ≡ value 0 (span s i (j - i))) where
     pub large_told : 4294967295 < u → No ≡ number_of (span s i (j - i))
@@ -245,12 +245,12 @@ module _ (s : List ℕ) (i q j : ℕ) (r : Bool) (l : q < j) (p : r ≡ is_digit
         let y = value_on s q j l v u (value 0 (span s i (j - i))) h x in
         number_large (span s i (j - i)) (omega (arith, y, value_grows u (span s (q + 1) (j - (q + 1)))))
 
-    pub value-told : value u (span s (q + 1) (j - (q + 1))) ≡ value 0 (span s i (j - i))
-    value-told = value_on s q j l v u (value 0 (span s i (j - i))) h x
+    pub value_told : value u (span s (q + 1) (j - (q + 1))) ≡ value 0 (span s i (j - i))
+    value_told = value_on s q j l v u (value 0 (span s i (j - i))) h x
 
-    pub digits-told : digits (span s (q + 1) (j - (q + 1))) ≡ digits (span s i (j - i))
-    digits-told = digits_on s q j l (digits (span s i (j - i))) (digit-told r (get_or s q 0) p e) d
+    pub digits_told : digits (span s (q + 1) (j - (q + 1))) ≡ digits (span s i (j - i))
+    digits_told = digits_on s q j l (digits (span s i (j - i))) (digit_told r (get_or s q 0) p e) d
 
-pub number-told : (s : List ℕ) (i q j v : ℕ) (r : Bool) → r ≡ unpadded (span s i (j - i)) → not r ≡ false → j ≤ q → v ≤ 4294967295 → value v (span s q (j - q)) ≡ value 0 (span s i (j - i)) → digits (span s q (j - q)) ≡ digits (span s i (j - i)) → Value v ≡ number_of (span s i (j - i))
-number-told s i q j v r p e l m x d =
+pub number_told : (s : List ℕ) (i q j v : ℕ) (r : Bool) → r ≡ unpadded (span s i (j - i)) → not r ≡ false → j ≤ q → v ≤ 4294967295 → value v (span s q (j - q)) ≡ value 0 (span s i (j - i)) → digits (span s q (j - q)) ≡ digits (span s i (j - i)) → Value v ≡ number_of (span s i (j - i))
+number_told s i q j v r p e l m x d =
     number_is (span s i (j - i)) v (sym p ∙ not-false r e) (digits_end s q j (digits (span s i (j - i))) l d) (value_end s q j v (value 0 (span s i (j - i))) l x) m

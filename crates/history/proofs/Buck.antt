@@ -20,8 +20,8 @@ use Rattle.history.proofs.Placed.{tries}
 pub record Spread (slot : ℕ → Slot) (st : ℕ → ℕ) (w : ℕ → Mover) : Type 0 where
   pub slot_leaves : (g : ℕ) → 0 < (slot g).id → st (slot g).id ≡ 2
   pub set_leaves : (p b : ℕ) → 0 < b → 0 < (w p).member b → st b ≡ 2
-  pub slot-set : (g p : ℕ) → 0 < (slot g).id → (w p).member (slot g).id ≡ 0
-  pub set-set : (p q b : ℕ) → p ≢ q → 0 < b → 0 < (w p).member b → (w q).member b ≡ 0
+  pub slot_set : (g p : ℕ) → 0 < (slot g).id → (w p).member (slot g).id ≡ 0
+  pub set_set : (p q b : ℕ) → p ≢ q → 0 < b → 0 < (w p).member b → (w q).member b ≡ 0
   pub empty : (p b : ℕ) → (w p).label < 12 → (w p).member b ≡ 0
   pub has : (p n : ℕ) → (w p).label ≡ n → tries n ≡ true → (w p).member (w p).v ≡ 1
 
@@ -253,13 +253,13 @@ module _ (d : Desk) (slot : ℕ → Slot) (st : ℕ → ℕ) (w : ℕ → Mover)
 
   pub walk_buck : (x' : Mover) → Walk d.maxg (d.posted here) (slot here) (w p) x' → Buck slot d.holds (changed w p x')
   walk_buck x' s = rebuild slot d.holds w p x'
-      (walk_runner slot d.holds _ _ (w p) x' s (inv.runner p) (sp.has p) (gu.guard here).stands (sp.slot-set here p))
+      (walk_runner slot d.holds _ _ (w p) x' s (inv.runner p) (sp.has p) (gu.guard here).stands (sp.slot_set here p))
       (λ q _. inv.runner q)
       (λ q n. walk_from slot d.holds _ _ (w p) x' (w q) s (inv.runner p) (inv.race p q (λ e. n (sym e))))
       (λ q n i a b _ _ l _ _.
       let k = walk_store s (sp.has p) l in
       let e = ap d.holds (sym k.0 ∙ i) in
-      let z = sp.set-set q p (d.holds (w q).i) n a b in
+      let z = sp.set_set q p (d.holds (w q).i) n a b in
       absurd (omega (arith, k.1, ap (w p).member (((gu.guard here).stands (omega arith)).0 ∙ e))))
       (λ q r _ _ n. inv.race q r n)
       (λ g. walk_ahead slot d.holds g _ _ (w p) x' s (inv.runner p) (λ a. ((gu.guard g).stands a).1) (inv.ahead g p))

@@ -24,14 +24,14 @@ module _ {A : Type 0} where
   unfolding changed
   changed_case P f k x j own other = when_both P (eqb j k) x (f j) (λ e. own (eqb-true j k e)) (λ e. other (eqb-false j k e))
 
-  pub changed-same : (f : ℕ → A) (k : ℕ) (x : A) → changed f k x k ≡ x
-  changed-same f k x = changed_case (λ y. y ≡ x) f k x k (λ e. refl) (λ n. absurd (n refl))
+  pub changed_same : (f : ℕ → A) (k : ℕ) (x : A) → changed f k x k ≡ x
+  changed_same f k x = changed_case (λ y. y ≡ x) f k x k (λ e. refl) (λ n. absurd (n refl))
 
   pub changed_ext : (f g : ℕ → A) (k : ℕ) (x : A) → g k ≡ x → ((j : ℕ) → j ≢ k → g j ≡ f j) → g ≡ changed f k x
   changed_ext f g k x e d = fun_ext (λ j. changed_case (λ y. g j ≡ y) f k x j (λ q. ap g q ∙ e) (d j))
 
   -- a list of which one entry is replaced, read by a function
-  pub set-changed : {B : Type 0} (φ : B → A) (l : List B) (d : B) (k : ℕ) (x : B) → k < length l
+  pub set_changed : {B : Type 0} (φ : B → A) (l : List B) (d : B) (k : ℕ) (x : B) → k < length l
       → (λ (j : ℕ). φ (get_or (set l k x) j d)) ≡ changed (λ (j : ℕ). φ (get_or l j d)) k (φ x)
-  set-changed φ l d k x h =
+  set_changed φ l d k x h =
       changed_ext (λ j. φ (get_or l j d)) (λ j. φ (get_or (set l k x) j d)) k (φ x) (ap φ (get_or-set_same l k x d h)) (λ j n. ap φ (get_or-set_other l k j x d n))

@@ -26,26 +26,26 @@ use Rattle.pool.specs.Steps.{puts, ends, line2, line18, line28, freed, line_of, 
 use Rattle.pool.proofs.Parts.{sizes_of}
 use Rattle.pool.proofs.Firsts.{first_both}
 use Rattle.pool.proofs.Checked.{takes, gives_up}
-use Rattle.pool.proofs.Standing.{stands, worker-below}
+use Rattle.pool.proofs.Standing.{stands, worker_below}
 use Rattle.rules.specs.Calls.{Call, hiring, firing, posting, giving_up, taking, asking, advancing, call}
 use Rattle.rules.proofs.EachLine.{by_line}
-use Rattle.rules.proofs.Fresh.{blank-fresh}
+use Rattle.rules.proofs.Fresh.{blank_fresh}
 use Rattle.rules.proofs.ListChecked.{listed}
 use Rattle.history.specs.States.{is_accepted, handed_back}
 use Rattle.history.specs.Counts.{given_up_by}
 use Rattle.rules.specs.Shaped.{Shaped}
 use Rattle.rules.proofs.Outcomes.{after_both}
-use Rattle.history.proofs.Heard.{at-buffer}
+use Rattle.history.proofs.Heard.{at_buffer}
 use Rattle.history.proofs.Placed.{Placed, member_wanted}
 use Rattle.history.proofs.Sums.{count_parts, count_among}
-use Rattle.history.proofs.Leaving.{leaving_number, member-most}
+use Rattle.history.proofs.Leaving.{leaving_number, member_most}
 
 module _ (p : Pool) (sound : sound_of p ≡ true) (long : Shaped p) (a : Placed p) where
   abbrev Balanced : Call → Told → Type 0
   Balanced c t = given_up_by c t.answer + leaving_number p ≡ handed_back t.answer + leaving_number t.pool
 
   most : p.b ≤ 256
-  most = (sizes_of p sound).b-most
+  most = (sizes_of p sound).b_most
 
   -- ---- begins
 
@@ -78,7 +78,7 @@ module _ (p : Pool) (sound : sound_of p ≡ true) (long : Shaped p) (a : Placed 
       let h = listed p ids (length ids) e k l in
       record { some = h.names.some; most = omega arith; first = h.first_named }) in
       let parts = count_parts 256 (λ k. eqb (get_or (leaving ids p) (suc k - 1) 0) 2) (λ k. among ids (suc k)) (λ k. eqb (state_of p (suc k)) 2) (λ k l.
-      rw (at-buffer (λ n. when (among ids n) 2 (state_of p n)) (suc k) (omega arith) l) (change (suc k) (among ids (suc k)) refl)) in
+      rw (at_buffer (λ n. when (among ids n) 2 (state_of p n)) (suc k) (omega arith) l) (change (suc k) (among ids (suc k)) refl)) in
       omega arith
     where
       change : (id : ℕ) (t : Bool) → among ids id ≡ t → one (eqb (when t 2 (state_of p id)) 2) ≡ one t + one (eqb (state_of p id) 2)
@@ -118,10 +118,10 @@ module _ (p : Pool) (sound : sound_of p ≡ true) (long : Shaped p) (a : Placed 
   unfolding size_of when
   back_counted k below =
       count_parts 256 (λ j. eqb (state_of p (suc j)) 2) (λ j. member_of (set_at p k) (suc j)) (λ j. eqb (get_or (freed (set_at p k) p) (suc j - 1) 0) 2) (λ j l.
-      rw (at-buffer (λ n. when (member_of (set_at p k) n) 0 (state_of p n)) (suc j) (omega arith) l) (change (suc j) (omega arith) (member_of (set_at p k) (suc j)) refl))
+      rw (at_buffer (λ n. when (member_of (set_at p k) n) 0 (state_of p n)) (suc j) (omega arith) l) (change (suc j) (omega arith) (member_of (set_at p k) (suc j)) refl))
     where
       change : (id : ℕ) → 1 ≤ id → (t : Bool) → member_of (set_at p k) id ≡ t → one (eqb (state_of p id) 2) ≡ one t + one (eqb (when t 0 (state_of p id)) 2)
-      change id lo true m = member_wanted a k below id lo (member-most p sound k below id m) m
+      change id lo true m = member_wanted a k below id lo (member_most p sound k below id m) m
       change id lo false m = omega arith
 
   module _ (w : ℕ) (out : List ℕ) where
@@ -156,7 +156,7 @@ module _ (p : Pool) (sound : sound_of p ≡ true) (long : Shaped p) (a : Placed 
     unfolding advance_of advance_check after_check given_up_by handed_back
     advance_counted =
         after_both Fine (advance_check p _ (length out)) p _
-        (λ e. let no : WorkerNo = record { 0 = w } in lines_counted _ (w - 1) (worker-below (stands p no (first_both (stand_check p no) _ e).0)))
+        (λ e. let no : WorkerNo = record { 0 = w } in lines_counted _ (w - 1) (worker_below (stands p no (first_both (stand_check p no) _ e).0)))
         (λ n place e. refl)
 
   -- ---- any call
@@ -172,4 +172,4 @@ module _ (p : Pool) (sound : sound_of p ≡ true) (long : Shaped p) (a : Placed 
   call_counted (advancing w out) = advance_counted w out
 
 pub fresh_counted : (w g b : ℕ) → leaving_number (blank w g b) ≡ 0
-fresh_counted w g b = count_zero 256 (λ k. eqb (state_of (blank w g b) (suc k)) 2) (λ k l. ap (λ (n : ℕ). eqb n 2) ((blank-fresh w g b).free (suc k)))
+fresh_counted w g b = count_zero 256 (λ k. eqb (state_of (blank w g b) (suc k)) 2) (λ k l. ap (λ (n : ℕ). eqb n 2) ((blank_fresh w g b).free (suc k)))

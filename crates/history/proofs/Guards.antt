@@ -4,7 +4,7 @@ use mathlib.Core.Logic.{◌≢◌}
 use Prim.Native.Nat.{ℕ, ◌+◌, ◌≤◌, ◌<◌}
 use native.Mathlib.Omega.{arith}
 use Rattle.history.specs.Holds.{changed}
-use Rattle.history.proofs.Changed.{changed_case, changed-same, not_pos}
+use Rattle.history.proofs.Changed.{changed_case, changed_same, not_pos}
 use Rattle.history.proofs.Moves.{Mover, mover, Desk, desk, still, Serve, hire, s2y, s2n, s2e, s4a, s4b, s5y, s5n, s6, fire, s7, s8, post, s9, s10}
 
 -- A worker, at a guard whose entries are tk, em, po, ho.
@@ -79,7 +79,7 @@ module _ (d : Desk) (w : ℕ → Mover) (p : ℕ) (s : ℕ → ℕ) (inv : Guard
 
   two_y : (w p).label ≡ 2 → d.taken here ≡ 0 → Guards (desk d.maxg (changed d.taken here 1) d.employer d.posted d.holds) (changed w p (mover 4 here (w p).v (w p).h (w p).attempts (w p).max s))
   two_y e t = rebuild _ w p _ inv.apart
-      (let z = not_pos (d.employer here) (λ a. omega (arith, (inv.guard here).own a)) in let u = changed-same d.taken here 1 in omega arith)
+      (let z = not_pos (d.employer here) (λ a. omega (arith, (inv.guard here).own a)) in let u = changed_same d.taken here 1 in omega arith)
       (λ q n. changed_case (λ t. Clerk d.maxg t (d.employer (w q).i) (d.posted (w q).i) (d.holds (w q).i) q (w q)) d.taken here 1 (w q).i
       (λ s. on_taken 1 (inv.clerk q) (λ _ _. refl)) (λ _. inv.clerk q))
       (λ q n _ _ a b s. omega (arith, (inv.clerk q).busy a b, ap d.taken s))
@@ -118,7 +118,7 @@ module _ (d : Desk) (w : ℕ → Mover) (p : ℕ) (s : ℕ → ℕ) (inv : Guard
   fired : (g : ℕ) → (w p).label ≡ 0 → d.employer g ≡ p + 1 →
       Guards (desk d.maxg d.taken (changed d.employer g 0) d.posted d.holds) (changed w p (mover 7 g (w p).v (w p).h (w p).attempts (w p).max s))
   fired g e f = rebuild _ w p _ inv.apart
-      (omega (arith, changed-same d.employer g 0, (inv.guard g).own (omega arith)))
+      (omega (arith, changed_same d.employer g 0, (inv.guard g).own (omega arith)))
       (λ q n. changed_case (λ t. Clerk d.maxg (d.taken (w q).i) t (d.posted (w q).i) (d.holds (w q).i) q (w q)) d.employer g 0 (w q).i
       (λ s. on_emp 0 (inv.clerk q) (λ a b. refl) (λ a b. absurd (n (omega (arith, (inv.clerk q).mine a b, ap d.employer s)))))
       (λ _. inv.clerk q))
@@ -140,7 +140,7 @@ module _ (d : Desk) (w : ℕ → Mover) (p : ℕ) (s : ℕ → ℕ) (inv : Guard
   posting : (g b : ℕ) → (w p).label ≡ 0 → d.employer g ≡ p + 1 →
       Guards (desk d.maxg d.taken d.employer d.posted (changed d.holds g 0)) (changed w p (mover 9 g b (w p).h (w p).attempts (w p).max s))
   posting g b e f = rebuild _ w p _ inv.apart
-      (omega (arith, changed-same d.holds g 0))
+      (omega (arith, changed_same d.holds g 0))
       (λ q n. changed_case (λ t. Clerk d.maxg (d.taken (w q).i) (d.employer (w q).i) (d.posted (w q).i) t q (w q)) d.holds g 0 (w q).i
       (λ s. on_hold 0 (inv.clerk q) (λ a b. refl)) (λ _. inv.clerk q))
       (λ q n. omega arith)
@@ -155,7 +155,7 @@ module _ (d : Desk) (w : ℕ → Mover) (p : ℕ) (s : ℕ → ℕ) (inv : Guard
   nine e =
       let c = (inv.clerk p).mine (omega arith) (omega arith) in
       rebuild _ w p _ inv.apart
-      (omega (arith, changed-same d.posted here (w p).v))
+      (omega (arith, changed_same d.posted here (w p).v))
       (λ q n. changed_case (λ t. Clerk d.maxg (d.taken (w q).i) (d.employer (w q).i) t (d.holds (w q).i) q (w q)) d.posted here (w p).v (w q).i
       (λ s. let k = inv.clerk q in
       record { busy = k.busy; above = k.above; below = k.below; mine = k.mine; posted = λ a. absurd (alone q n (omega arith) (omega arith) (omega arith) (omega arith) s) })

@@ -29,7 +29,7 @@ use Rattle.pool.specs.Steps.{puts, ends, line2, line18, line28, line32, line_of,
 use Rattle.pool.proofs.Parts.{sizes_of}
 use Rattle.pool.proofs.Firsts.{first_both}
 use Rattle.pool.proofs.Checked.{takes}
-use Rattle.pool.proofs.Standing.{stands, before32, last-label}
+use Rattle.pool.proofs.Standing.{stands, before32, last_label}
 use Rattle.rules.specs.Calls.{Call, hiring, firing, posting, giving_up, taking, asking, advancing, call, list_of}
 use Rattle.rules.proofs.EachLine.{by_line}
 use Rattle.history.specs.States.{States, is_accepted, handed_back, heard}
@@ -48,12 +48,12 @@ pub record Told-by (p : Pool) (s : States) (c : Call) (list : List ℕ) (t : Tol
   pub same : (id : ℕ) → 1 ≤ id → id ≤ p.b → state_of t.pool id ≡ heard c t.answer list s id
 
 -- a buffer's entry of a table
-pub at-buffer : (f : ℕ → ℕ) (id : ℕ) → 1 ≤ id → id ≤ 256 → get_or (table 256 (λ k. f (suc k))) (id - 1) 0 ≡ f id
-at-buffer f id lo hi = table_at 256 (λ k. f (suc k)) (id - 1) 0 (omega arith) ∙ ap f (omega arith)
+pub at_buffer : (f : ℕ → ℕ) (id : ℕ) → 1 ≤ id → id ≤ 256 → get_or (table 256 (λ k. f (suc k))) (id - 1) 0 ≡ f id
+at_buffer f id lo hi = table_at 256 (λ k. f (suc k)) (id - 1) 0 (omega arith) ∙ ap f (omega arith)
 
 module _ (p : Pool) (s : States) (sound : sound_of p ≡ true) (long : Shaped p) (a : Agrees p s) where
   most : p.b ≤ 256
-  most = (sizes_of p sound).b-most
+  most = (sizes_of p sound).b_most
 
   -- an outcome that changes no state, of which the history hears nothing
   module _ (c : Call) (list : List ℕ) where
@@ -79,33 +79,33 @@ module _ (p : Pool) (s : States) (sound : sound_of p ≡ true) (long : Shaped p)
           b = eb;
           same = λ id lo hi.
               let m = most in
-              ap (λ (l : List ℕ). get_or l (id - 1) 0) es ∙ at-buffer (λ n. when (picked n) x (state_of p n)) id lo (omega arith)
+              ap (λ (l : List ℕ). get_or l (id - 1) 0) es ∙ at_buffer (λ n. when (picked n) x (state_of p n)) id lo (omega arith)
               ∙ ap (when (picked id) x) (a id lo hi) ∙ sym (h id lo (omega arith));
         }
 
   -- ---- begins
 
-  hire-told : (w : ℕ) (list : List ℕ) → Told-by p s (hiring w) list (hire_of p (record { 0 = w }))
+  hire_told : (w : ℕ) (list : List ℕ) → Told-by p s (hiring w) list (hire_of p (record { 0 = w }))
   unfolding hire_of heard after_check
-  hire-told w list =
+  hire_told w list =
       after_both (Told-by p s (hiring w) list) (begin_check p _) p _ (λ e. quiet _ list _ refl refl refl refl (λ id. refl))
       (λ n place e. quiet _ list _ refl refl refl refl (λ id. refl))
 
-  fire-told : (w g : ℕ) (list : List ℕ) → Told-by p s (firing w g) list (fire_of p (record { 0 = w }) (record { 0 = g }))
+  fire_told : (w g : ℕ) (list : List ℕ) → Told-by p s (firing w g) list (fire_of p (record { 0 = w }) (record { 0 = g }))
   unfolding fire_of heard after_check
-  fire-told w g list =
+  fire_told w g list =
       after_both (Told-by p s (firing w g) list) (fire_check p _ _) p _ (λ e. quiet _ list _ refl refl refl refl (λ id. refl))
       (λ n place e. quiet _ list _ refl refl refl refl (λ id. refl))
 
-  post-told : (w g b : ℕ) (list : List ℕ) → Told-by p s (posting w g b) list (post_of p (record { 0 = w }) (record { 0 = g }) (record { 0 = b }))
+  post_told : (w g b : ℕ) (list : List ℕ) → Told-by p s (posting w g b) list (post_of p (record { 0 = w }) (record { 0 = g }) (record { 0 = b }))
   unfolding post_of heard after_check
-  post-told w g b list =
+  post_told w g b list =
       after_both (Told-by p s (posting w g b) list) (post_check p _ _ _) p _ (λ e. quiet _ list _ refl refl refl refl (λ id. refl))
       (λ n place e. quiet _ list _ refl refl refl refl (λ id. refl))
 
-  ask-told : (w b : ℕ) (list : List ℕ) → Told-by p s (asking w b) list (ask_of p (record { 0 = w }) (record { 0 = b }))
+  ask_told : (w b : ℕ) (list : List ℕ) → Told-by p s (asking w b) list (ask_of p (record { 0 = w }) (record { 0 = b }))
   unfolding ask_of heard after_check
-  ask-told w b list =
+  ask_told w b list =
       after_both (Told-by p s (asking w b) list) (ask_check p _ _) p _ (λ e. quiet _ list _ refl refl refl refl (λ id. refl))
       (λ n place e. quiet _ list _ refl refl refl refl (λ id. refl))
 
@@ -117,9 +117,9 @@ module _ (p : Pool) (s : States) (sound : sound_of p ≡ true) (long : Shaped p)
       tabled _ list _ (among ids) 2 refl refl refl refl (λ id lo hi. refl))
       (λ n place e. quiet _ list _ refl refl refl refl (λ id. refl))
 
-  take-told : (c : ℕ) (list : List ℕ) → Told-by p s (taking c) list (take_of p (record { 0 = c }))
+  take_told : (c : ℕ) (list : List ℕ) → Told-by p s (taking c) list (take_of p (record { 0 = c }))
   unfolding take_of heard after_check is_accepted when
-  take-told c list =
+  take_told c list =
       after_both (Told-by p s (taking c) list) (take_check p _) p _
       (λ e.
       let t = takes p (record { 0 = c }) e in
@@ -163,9 +163,9 @@ module _ (p : Pool) (s : States) (sound : sound_of p ≡ true) (long : Shaped p)
         let set = set_at p k in
         rw (e, ← members_size set) (among_front (members_of set) (drop (length (members_of set)) out) id) ∙ among_members set id lo hi
 
-    last-told : (k : ℕ) → list ≡ handed (set_at p k) out → Fine (line32 k p)
+    last_told : (k : ℕ) → list ≡ handed (set_at p k) out → Fine (line32 k p)
     unfolding ends heard handed_back
-    last-told k e =
+    last_told k e =
         tabled _ list _ (member_of (set_at p k)) 0 refl refl refl refl (λ id lo hi. ap (λ (t : Bool). when t 0 (s id)) (handed_ids k id e lo hi))
 
     line_told : (l k : ℕ) → (among before32 l ≡ false → list ≡ handed (set_at p k) out) → Fine (line_of l k p)
@@ -190,7 +190,7 @@ module _ (p : Pool) (s : States) (sound : sound_of p ≡ true) (long : Shaped p)
           at25 = λ q. puts_quiet k _ _ refl refl refl refl;
           at28 = λ q. unless_both Fine _ _ _ (λ t. puts_quiet k _ _ refl refl refl refl) (λ t. puts_quiet k _ _ refl refl refl refl);
           at31 = λ q. puts_quiet k _ _ refl refl refl refl;
-          at32 = λ q. last-told k (e q);
+          at32 = λ q. last_told k (e q);
         })
 
   -- the list where the check finds nothing and the label is 32
@@ -199,24 +199,24 @@ module _ (p : Pool) (s : States) (sound : sound_of p ≡ true) (long : Shaped p)
   unfolding list_after list_after_check when
   list_written w out e q = rw (e, q)
 
-  advance-told : (w : ℕ) (out : List ℕ) → Told-by p s (advancing w out) (list_after p (record { 0 = w }) out) (advance_of p (record { 0 = w }) out)
+  advance_told : (w : ℕ) (out : List ℕ) → Told-by p s (advancing w out) (list_after p (record { 0 = w }) out) (advance_of p (record { 0 = w }) out)
   unfolding advance_of advance_check heard after_check handed_back any_below when
-  advance-told w out =
+  advance_told w out =
       after_both (Told-by p s (advancing w out) (list_after p (record { 0 = w }) out)) (advance_check p _ (length out)) p _
       (λ e.
       let no : WorkerNo = record { 0 = w } in
       let st = stands p no (first_both (stand_check p no) _ e).0 in
-      line_told w out (list_after p no out) (worker_of p no).label (w - 1) (λ none. list_written no out e (last-label st none)))
+      line_told w out (list_after p no out) (worker_of p no).label (w - 1) (λ none. list_written no out e (last_label st none)))
       (λ n place e. quiet _ _ _ refl refl refl refl (λ id. refl))
 
   -- ---- any call
 
-  pub call-told : (c : Call) → Told-by p s c (list_of c p) (call c p)
+  pub call_told : (c : Call) → Told-by p s c (list_of c p) (call c p)
   unfolding call list_of
-  call-told (hiring w) = hire-told w []
-  call-told (firing w g) = fire-told w g []
-  call-told (posting w g b) = post-told w g b []
-  call-told (giving_up w ids) = give_up_told w ids []
-  call-told (taking b) = take-told b []
-  call-told (asking w b) = ask-told w b []
-  call-told (advancing w out) = advance-told w out
+  call_told (hiring w) = hire_told w []
+  call_told (firing w g) = fire_told w g []
+  call_told (posting w g b) = post_told w g b []
+  call_told (giving_up w ids) = give_up_told w ids []
+  call_told (taking b) = take_told b []
+  call_told (asking w b) = ask_told w b []
+  call_told (advancing w out) = advance_told w out

@@ -25,11 +25,11 @@ leaving_number p = count_below 256 (λ k. eqb (state_of p (suc k)) 2)
 module _ (p : Pool) (sound : sound_of p ≡ true) where
   -- ---- no id above B is stored
 
-  slot-most : (i : ℕ) → i < 32 → (slot_at p i).id ≤ p.b
-  slot-most i l = leb-true _ _ (and_right (leb (posted_at p i) p.b) (leb (slot_at p i).id p.b) (all_at 32 (guard_ids p) (parts sound).guard_ids_lem i l))
+  slot_most : (i : ℕ) → i < 32 → (slot_at p i).id ≤ p.b
+  slot_most i l = leb-true _ _ (and_right (leb (posted_at p i) p.b) (leb (slot_at p i).id p.b) (all_at 32 (guard_ids p) (parts sound).guard_ids_lem i l))
 
-  pub member-most : (k : ℕ) → k < 8 → (id : ℕ) → member_of (set_at p k) id ≡ true → id ≤ p.b
-  member-most k l =
+  pub member_most : (k : ℕ) → k < 8 → (id : ℕ) → member_of (set_at p k) id ≡ true → id ≤ p.b
+  member_most k l =
       let x = worker_at p k in
       within_true (set_at p k) p.b
       (and_right (leb x.v p.b && leb x.h.id p.b) (within_of (set_at p k) p.b)
@@ -52,18 +52,18 @@ module _ (p : Pool) (sound : sound_of p ≡ true) where
         rw (free_beyond k l beyond)
         (sym
         (ap₂ ◌+◌
-        (count_zero 32 (λ i. eqb (slot_at p i).id (suc k)) (λ i m. ne_eqb (slot_at p i).id (suc k) (λ e. omega (arith, slot-most i m))))
-        (count_zero 8 (λ j. member_of (set_at p j) (suc k)) (λ j m. is_false (member_of (set_at p j) (suc k)) (λ e. omega (arith, member-most j m (suc k) e)))))))
+        (count_zero 32 (λ i. eqb (slot_at p i).id (suc k)) (λ i m. ne_eqb (slot_at p i).id (suc k) (λ e. omega (arith, slot_most i m))))
+        (count_zero 8 (λ j. member_of (set_at p j) (suc k)) (λ j m. is_false (member_of (set_at p j) (suc k)) (λ e. omega (arith, member_most j m (suc k) e)))))))
         (λ below. sym (a.places (suc k) (omega arith) below))
 
-    pub leaving-held : leaving_number p ≡ in_slots p + in_sets p
+    pub leaving_held : leaving_number p ≡ in_slots p + in_sets p
     unfolding in_slots in_sets size_of
-    leaving-held =
-        let most = (sizes_of p sound).b-most in
+    leaving_held =
+        let most = (sizes_of p sound).b_most in
         sym (sum_ones 256 (λ k. eqb (state_of p (suc k)) 2))
         ∙ sum_parts 256 (λ k. one (eqb (state_of p (suc k)) 2)) _ _ places_all
         ∙ ap₂ ◌+◌
         (sum_swap 256 32 (λ i k. eqb (slot_at p i).id (suc k))
-        ∙ sum_cong 32 _ (λ i. one (not (eqb (slot_at p i).id 0))) (λ i l. count_one 256 (slot_at p i).id (omega (arith, slot-most i l)))
+        ∙ sum_cong 32 _ (λ i. one (not (eqb (slot_at p i).id 0))) (λ i l. count_one 256 (slot_at p i).id (omega (arith, slot_most i l)))
         ∙ sum_ones 32 (λ i. not (eqb (slot_at p i).id 0)))
         (sum_swap 256 8 (λ j k. member_of (set_at p j) (suc k)))

@@ -94,8 +94,8 @@ module _ {b : ℕ} {slots states : List ℕ} {workers : List Worker} {sets : Lis
     member_wanted id lo hi m = omega (arith, member_counted id m, a.places id lo hi, one_le (eqb (get_or states (id - 1) 0) 2))
 
     -- what a slot holds is no member
-    pub slot-alone : (id i : ℕ) → 1 ≤ id → id ≤ b → i < 32 → get_or slots i 0 ≡ id → member_of (get_or sets k none) id ≡ false
-    slot-alone id i lo hi l e =
+    pub slot_alone : (id i : ℕ) → 1 ≤ id → id ≤ b → i < 32 → get_or slots i 0 ≡ id → member_of (get_or sets k none) id ≡ false
+    slot_alone id i lo hi l e =
         is_false (member_of (get_or sets k none) id) (λ m.
         let s = count_some 32 (λ i. eqb (get_or slots i 0) id) i l (eq-eqb (get_or slots i 0) id e) in
         omega (arith, member_counted id m, a.places id lo hi, one_le (eqb (get_or states (id - 1) 0) 2)))

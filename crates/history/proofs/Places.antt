@@ -18,7 +18,7 @@ use Rattle.basics.proofs.Picks.{when_both, unless_both}
 use Rattle.basics.proofs.Truth.{and_left, and_right}
 use Rattle.idset.specs.declared.IdSet.{IdSet}
 use Rattle.idset.specs.Members.{member_of, no_ids, set_of, with_of, without_of}
-use Rattle.idset.proofs.Members.{id_true, member-set_of, member_none, member_with, member_without}
+use Rattle.idset.proofs.Members.{id_true, member_set_of, member_none, member_with, member_without}
 use Rattle.worker.specs.declared.Worker.{Worker}
 use Rattle.worker.specs.Registers.{no_worker, to, with_v}
 use Rattle.worker.specs.Steps.{at22}
@@ -34,21 +34,21 @@ use Rattle.pool.specs.ForProofs.Ready.{Stands}
 use Rattle.pool.proofs.Parts.{sizes_of}
 use Rattle.pool.proofs.Firsts.{first_both}
 use Rattle.pool.proofs.Checked.{Begun, begun, fires, posts, takes, GivesUp, gives_up}
-use Rattle.pool.proofs.Standing.{stands, worker-below, ready}
+use Rattle.pool.proofs.Standing.{stands, worker_below, ready}
 use Rattle.rules.specs.Calls.{Call, hiring, firing, posting, giving_up, taking, asking, advancing, call}
 use Rattle.rules.proofs.EachLine.{by_line}
-use Rattle.rules.proofs.Fresh.{blank-fresh}
+use Rattle.rules.proofs.Fresh.{blank_fresh}
 use Rattle.rules.proofs.ListChecked.{listed}
 use Rattle.rules.specs.Shaped.{Shaped}
 use Rattle.rules.proofs.Outcomes.{after_both}
-use Rattle.history.proofs.Heard.{at-buffer}
-use Rattle.history.proofs.Placed.{gives, tries, Carries, wanted, Placed, restated, member_wanted, slot-alone, replaced, worker_replaced, slot_replaced}
+use Rattle.history.proofs.Heard.{at_buffer}
+use Rattle.history.proofs.Placed.{gives, tries, Carries, wanted, Placed, restated, member_wanted, slot_alone, replaced, worker_replaced, slot_replaced}
 
 -- ---- a worker and its set, by the label
 
 module _ (x : Worker) (s : IdSet) where
-  empty-set : tries x.label ≡ false → ((id : ℕ) → member_of s id ≡ false) → Carries x s
-  empty-set t e = record { outside = λ n. e; trying = λ y. absurd (false≢true (sym t ∙ y)) }
+  empty_set : tries x.label ≡ false → ((id : ℕ) → member_of s id ≡ false) → Carries x s
+  empty_set t e = record { outside = λ n. e; trying = λ y. absurd (false≢true (sym t ∙ y)) }
 
   any_set : gives x.label ≡ true → tries x.label ≡ false → Carries x s
   any_set g t = record { outside = λ n. absurd (false≢true (sym n ∙ g)); trying = λ y. absurd (false≢true (sym t ∙ y)) }
@@ -61,7 +61,7 @@ module _ (p : Pool) (sound : sound_of p ≡ true) (long : Shaped p) (a : Placed 
   Fine t = Placed t.pool
 
   most : p.b ≤ 256
-  most = (sizes_of p sound).b-most
+  most = (sizes_of p sound).b_most
 
   -- ---- begins
 
@@ -73,7 +73,7 @@ module _ (p : Pool) (sound : sound_of p ≡ true) (long : Shaped p) (a : Placed 
     begun_empty = (a.holds (w.0 - 1) begun_below).outside (ap gives b.idle)
 
     begins : (x : Worker) → tries x.label ≡ false → Placed (with_worker (w.0 - 1) x p)
-    begins x t = worker_replaced long a (w.0 - 1) begun_below x (empty-set x _ t begun_empty)
+    begins x t = worker_replaced long a (w.0 - 1) begun_below x (empty_set x _ t begun_empty)
 
   hire_placed : (w : ℕ) → Fine (hire_of p (record { 0 = w }))
   unfolding hire_of after_check
@@ -97,7 +97,7 @@ module _ (p : Pool) (sound : sound_of p ≡ true) (long : Shaped p) (a : Placed 
   unfolding when
   give_up_change w ids g id lo hi =
       let m = most in
-      rw (member-set_of (among ids) id, id_true id lo (omega arith), begun_empty g.begun id, at-buffer (λ n. when (among ids n) 2 (state_of p n)) id lo (omega arith))
+      rw (member_set_of (among ids) id, id_true id lo (omega arith), begun_empty g.begun id, at_buffer (λ n. when (among ids n) 2 (state_of p n)) id lo (omega arith))
       (change (among ids id) refl)
     where
       change : (t : Bool) → among ids id ≡ t → one t + wanted p.states id ≡ 0 + one (eqb (when t 2 (state_of p id)) 2)
@@ -143,7 +143,7 @@ module _ (p : Pool) (sound : sound_of p ≡ true) (long : Shaped p) (a : Placed 
     s = set_at p k
 
     below : k < 8
-    below = worker-below st
+    below = worker_below st
 
     held : Carries x s
     held = a.holds k below
@@ -159,7 +159,7 @@ module _ (p : Pool) (sound : sound_of p ≡ true) (long : Shaped p) (a : Placed 
 
     -- outside of a give-up
     quiet : (n : ℕ) → x.label ≡ n → gives n ≡ false → (y : Worker) → tries y.label ≡ false → Placed (with_worker k y p)
-    quiet n e g y t = goes_on y (empty-set y s t (outside_at n e g))
+    quiet n e g y t = goes_on y (empty_set y s t (outside_at n e g))
 
     -- at an end
     abbrev closed : List ℕ → Pool
@@ -169,7 +169,7 @@ module _ (p : Pool) (sound : sound_of p ≡ true) (long : Shaped p) (a : Placed 
         → ((id : ℕ) → 1 ≤ id → id ≤ p.b → wanted p.states id ≡ one (member_of s id) + wanted states id)
         → Placed (closed states)
     ended states change =
-        replaced long a k below p.slot_id states no_worker no_ids (empty-set no_worker no_ids refl member_none) (λ id lo hi.
+        replaced long a k below p.slot_id states no_worker no_ids (empty_set no_worker no_ids refl member_none) (λ id lo hi.
         rw (member_none id) (omega (arith, change id lo hi)))
 
     quiet_end : (n : ℕ) → x.label ≡ n → gives n ≡ false → Placed (closed p.states)
@@ -181,7 +181,7 @@ module _ (p : Pool) (sound : sound_of p ≡ true) (long : Shaped p) (a : Placed 
     last_placed =
         ended (freed s p) (λ id lo hi.
         let m = most in
-        rw (at-buffer (λ n. when (member_of s n) 0 (state_of p n)) id lo (omega arith)) (change id lo hi (member_of s id) refl))
+        rw (at_buffer (λ n. when (member_of s n) 0 (state_of p n)) id lo (omega arith)) (change id lo hi (member_of s id) refl))
       where
         change : (id : ℕ) → 1 ≤ id → id ≤ p.b → (t : Bool) → member_of s id ≡ t
             → wanted p.states id ≡ one (member_of s id) + one (eqb (when (member_of s id) 0 (state_of p id)) 2)
@@ -208,7 +208,7 @@ module _ (p : Pool) (sound : sound_of p ≡ true) (long : Shaped p) (a : Placed 
         rw (member_with (without_of s x.v) h id, member_without s x.v id, id_true id lo (omega arith), q) (go d c)
       where
         alone : id ≡ h → member_of s id ≡ false
-        alone r = slot-alone a k below id (i_of p k) lo hi (slot_here_lem 18 e refl) (q ∙ sym r)
+        alone r = slot_alone a k below id (i_of p k) lo hi (slot_here_lem 18 e refl) (q ∙ sym r)
 
         mine : id ≡ x.v → member_of s id ≡ true
         mine r = ap (member_of s) r ∙ trying_at 18 e refl
@@ -229,7 +229,7 @@ module _ (p : Pool) (sound : sound_of p ≡ true) (long : Shaped p) (a : Placed 
       where
         go : Dec (id ≡ h) → 0 + one (eqb id h || member_of s id) ≡ one (eqb h id) + one (member_of s id)
         go (yes r) =
-            rw (slot-alone a k below id (i_of p k) lo hi (slot_here_lem 28 e refl) (q ∙ sym r), eq-eqb id h r, eq-eqb h id (sym r))
+            rw (slot_alone a k below id (i_of p k) lo hi (slot_here_lem 28 e refl) (q ∙ sym r), eq-eqb id h r, eq-eqb h id (sym r))
         go (no r) = rw (ne_eqb id h r, ne_eqb h id (λ z. r (sym z)))
 
     lines_placed : Fine (line_of x.label k p)
@@ -287,9 +287,9 @@ module _ (p : Pool) (sound : sound_of p ≡ true) (long : Shaped p) (a : Placed 
 
 pub fresh_placed : (w g b : ℕ) → Placed (blank w g b)
 fresh_placed w g b =
-    let f = blank-fresh w g b in
+    let f = blank_fresh w g b in
     record {
-      holds = λ k l. empty-set _ _ (ap (λ (x : Worker). tries x.label) (f.idle k)) (λ id. f.empty k id l);
+      holds = λ k l. empty_set _ _ (ap (λ (x : Worker). tries x.label) (f.idle k)) (λ id. f.empty k id l);
       places = λ id lo hi.
           rw (f.free id)
           (ap₂ ◌+◌

@@ -11,13 +11,13 @@ use Rattle.pool.specs.declared.Pool.{Pool}
 use Rattle.pool.specs.Record.{state_of}
 use Rattle.pool.proofs.Parts.{parts, sizes_of}
 use Rattle.rules.specs.Calls.{Call, call, list_of, after, seen}
-use Rattle.rules.proofs.CallsKept.{call-sound}
+use Rattle.rules.proofs.CallsKept.{call_sound}
 use Rattle.rules.proofs.Shaped.{call_shaped}
 use Rattle.history.specs.History.{History, tells, history_after, fresh}
 use Rattle.history.specs.Runs.{Follows, FollowsOn, EveryRun}
-use Rattle.history.proofs.Heard.{call-told}
+use Rattle.history.proofs.Heard.{call_told}
 use Rattle.history.proofs.Places.{call_placed}
-use Rattle.history.proofs.Leaving.{leaving_number, leaving-held}
+use Rattle.history.proofs.Leaving.{leaving_number, leaving_held}
 use Rattle.history.proofs.Counted.{call_counted, fresh_counted}
 use Rattle.history.proofs.Watching.{Known}
 use Rattle.history.proofs.Watched.{call_watched}
@@ -31,17 +31,17 @@ pub record Kept (p0 p : Pool) (h : History) : Type 0 where
   pub known : Known p h
   pub counted : h.given ≡ h.back + leaving_number p
 
-one-call : (c : Call) (p0 p : Pool) (h : History) → Kept p0 p h → Kept p0 (call c p).pool (tells (record { made = c; answer = (call c p).answer; list = list_of c p }) h)
+one_call : (c : Call) (p0 p : Pool) (h : History) → Kept p0 p h → Kept p0 (call c p).pool (tells (record { made = c; answer = (call c p).answer; list = list_of c p }) h)
 unfolding tells
-one-call c p0 p h k =
+one_call c p0 p h k =
     let f = k.known in
-    let t = call-told p h.states f.sound f.shaped f.agrees c in
+    let t = call_told p h.states f.sound f.shaped f.agrees c in
     record {
       w = t.w ∙ k.w;
       g = t.g ∙ k.g;
       b = t.b ∙ k.b;
       known = record {
-        sound = call-sound c p f.sound;
+        sound = call_sound c p f.sound;
         shaped = call_shaped c p f.shaped;
         placed = call_placed p f.sound f.shaped f.placed c;
         agrees = λ id lo hi. t.same id lo (subst (λ (n : ℕ). id ≤ n) t.b hi);
@@ -53,7 +53,7 @@ one-call c p0 p h k =
 run : (calls : List Call) (p0 p : Pool) (h : History) → Kept p0 p h → Kept p0 (after calls p) (history_after h (seen calls p))
 unfolding after seen history_after
 run [] p0 p h k = k
-run (c ∷ calls) p0 p h k = run calls p0 (call c p).pool _ (one-call c p0 p h k)
+run (c ∷ calls) p0 p h k = run calls p0 (call c p).pool _ (one_call c p0 p h k)
 
 three : (n : ℕ) → n ≤ 2 → one (eqb n 0) + one (eqb n 1) + one (eqb n 2) ≡ 1
 three zero l = refl
@@ -65,7 +65,7 @@ follows : (p0 p : Pool) (h : History) → Kept p0 p h → Follows p0.w p0.g p0.b
 follows p0 p h k =
     let f = k.known in
     let within : (id : ℕ) → id ≤ p0.b → id ≤ p.b = λ id hi. subst (λ (n : ℕ). id ≤ n) (sym k.b) hi in
-    let most = (sizes_of p f.sound).b-most in
+    let most = (sizes_of p f.sound).b_most in
     record {
       sound = f.sound;
       workers = k.w;
@@ -79,7 +79,7 @@ follows p0 p h k =
           let z = ap (λ (n : ℕ). one (eqb n 0)) (f.agrees id lo u) in
           let o = ap (λ (n : ℕ). one (eqb n 1)) (f.agrees id lo u) in
           omega (arith, f.placed.places id lo u);
-      counts = omega (arith, k.counted, leaving-held p f.sound f.placed);
+      counts = omega (arith, k.counted, leaving_held p f.sound f.placed);
       safe = safe p h f;
     }
 

@@ -18,10 +18,10 @@ use Rattle.pool.specs.Record.{blank, worker_at, set_at}
 use Rattle.pool.specs.Steps.{puts, ends, line2, line18, line28, line32, line_of, stand_check, advance_check, advance_of, handed, list_after}
 use Rattle.pool.proofs.Parts.{sizes_of}
 use Rattle.pool.proofs.Firsts.{first_both}
-use Rattle.pool.proofs.Standing.{stands, before32, last-label}
+use Rattle.pool.proofs.Standing.{stands, before32, last_label}
 use Rattle.rules.specs.Calls.{call, list_of}
 use Rattle.rules.proofs.EachLine.{by_line}
-use Rattle.rules.proofs.Fresh.{made-sound, blank-fresh}
+use Rattle.rules.proofs.Fresh.{made_sound, blank_fresh}
 use Rattle.history.specs.History.{History, fresh}
 use Rattle.history.specs.Safe.{Safe}
 use Rattle.rules.proofs.Shaped.{blank_shaped}
@@ -47,9 +47,9 @@ module _ {p : Pool} {h : History} (f : Known p h) (w : ℕ) (out : List ℕ) (n 
   ends_none_lem k said q never e m = never e
 
   -- 32: a member that guard g holds is none of a worker at 32
-  last-safe : (worker_at p (w - 1)).label ≡ 32 → list_after p (record { 0 = w }) out ≡ handed (set_at p (w - 1)) out → Fine (line32 (w - 1) p)
+  last_safe : (worker_at p (w - 1)).label ≡ 32 → list_after p (record { 0 = w }) out ≡ handed (set_at p (w - 1)) out → Fine (line32 (w - 1) p)
   unfolding ends
-  last-safe l q e m =
+  last_safe l q e m =
       let low : id ≤ p.b = subst (λ (b : ℕ). b ≤ p.b) held (hold_low f g) in
       let size : size_of (set_at p (w - 1)) ≡ n = cc in
       let among-n = handed_ids p h.states f.sound f.shaped f.agrees w out (list_after p (record { 0 = w }) out) (w - 1) id q lo (omega (arith, sizes_of p f.sound)) in
@@ -83,23 +83,23 @@ module _ {p : Pool} {h : History} (f : Known p h) (w : ℕ) (out : List ℕ) (n 
         at32 = last;
       })
 
-  advance-safe : Fine (advance_of p (record { 0 = w }) out)
+  advance_safe : Fine (advance_of p (record { 0 = w }) out)
   unfolding advance_of advance_check after_check
-  advance-safe =
+  advance_safe =
       after_both Fine (advance_check p _ (length out)) p _
       (λ e.
       let no : WorkerNo = record { 0 = w } in
       let st = stands p no (first_both (stand_check p no) _ e).0 in
       line_safe (λ none.
-      let l = last-label st none in
-      last-safe l (list_written p h.states f.sound f.shaped f.agrees no out e l)))
+      let l = last_label st none in
+      last_safe l (list_written p h.states f.sound f.shaped f.agrees no out e l)))
       (λ m place e r _. let z : ◌≡◌ {A = ℕ} 0 1 = cc in omega arith)
 
 -- ---- every run from a fresh pool
 
 fresh_watching : (w g b : ℕ) → Watching (blank w g b) (λ w. 0) (λ w. 0) (λ g. 0)
 fresh_watching w g b =
-    let f = blank-fresh w g b in
+    let f = blank_fresh w g b in
     let idle : (k : ℕ) → (worker_at (blank w g b) k).label ≡ 0 = λ k. ap (λ (x : Worker). x.label) (f.idle k) in
     record {
       recalls = λ k l u. absurd (omega (arith, idle k));
@@ -126,14 +126,14 @@ fresh_watching w g b =
 
 pub safe : (p : Pool) (h : History) → Known p h → Safe p h
 unfolding call list_of
-safe p h f worker out n answer i id lo handed held = advance-safe f worker out n i id lo held answer handed
+safe p h f worker out n answer i id lo handed held = advance_safe f worker out n i id lo held answer handed
 
 pub fresh_known : (w g b : ℕ) → in_range w g b ≡ true → Known (blank w g b) fresh
 fresh_known w g b range =
     record {
-      sound = made-sound w g b range;
+      sound = made_sound w g b range;
       placed = fresh_placed w g b;
       shaped = blank_shaped w g b;
-      agrees = λ id lo hi. (blank-fresh w g b).free id;
+      agrees = λ id lo hi. (blank_fresh w g b).free id;
       watching = fresh_watching w g b;
     }

@@ -24,7 +24,7 @@ use Rattle.pool.specs.Sound.{sound_of, guard_ids, worker_ids}
 use Rattle.pool.proofs.Parts.{parts}
 use Rattle.rules.specs.Shaped.{Shaped}
 use Rattle.history.proofs.Changed.{by_eq, not_pos}
-use Rattle.history.proofs.Placed.{gives, tries, Placed, wanted, member_wanted, slot-alone}
+use Rattle.history.proofs.Placed.{gives, tries, Placed, wanted, member_wanted, slot_alone}
 use Rattle.history.proofs.Moves.{Mover, mover}
 use Rattle.history.proofs.Buck.{Spread}
 
@@ -73,8 +73,8 @@ module _ (p : Pool) (sound : sound_of p ≡ true) (long : Shaped p) (a : Placed 
 
   -- ---- beyond the arrays there is nothing
 
-  slot-below : (g : ℕ) → 0 < (slot_at p g).id → g < 32
-  slot-below g l =
+  slot_below : (g : ℕ) → 0 < (slot_at p g).id → g < 32
+  slot_below g l =
       by_order 32 g (λ far. let z : (slot_at p g).id ≡ 0 = get_or-eq_default p.slot_id 0 (omega (arith, long.slot_ids)) in absurd (omega arith)) (λ near. near)
 
   set_below : (k b : ℕ) → member_of (set_at p k) b ≡ true → k < 8
@@ -89,11 +89,11 @@ module _ (p : Pool) (sound : sound_of p ≡ true) (long : Shaped p) (a : Placed 
   slot_id_lem : (g : ℕ) → g < 32 → (slot_at p g).id ≤ p.b
   slot_id_lem g l = leb-true _ _ (and_right (leb (posted_at p g) p.b) _ (all_at 32 (guard_ids p) (parts sound).guard_ids_lem g l))
 
-  pub posted-id : (g : ℕ) → g < 32 → posted_at p g ≤ p.b
-  posted-id g l = leb-true _ _ (and_left (leb (posted_at p g) p.b) _ (all_at 32 (guard_ids p) (parts sound).guard_ids_lem g l))
+  pub posted_id : (g : ℕ) → g < 32 → posted_at p g ≤ p.b
+  posted_id g l = leb-true _ _ (and_left (leb (posted_at p g) p.b) _ (all_at 32 (guard_ids p) (parts sound).guard_ids_lem g l))
 
-  set-id : (k b : ℕ) → k < 8 → member_of (set_at p k) b ≡ true → b ≤ p.b
-  set-id k b l m =
+  set_id : (k b : ℕ) → k < 8 → member_of (set_at p k) b ≡ true → b ≤ p.b
+  set_id k b l m =
       within_true (set_at p k) p.b
       (and_right (leb (worker_at p k).v p.b && leb (worker_at p k).h.id p.b) _
       (all_at 8 (worker_ids p) (parts sound).worker_ids_lem k l)) b m
@@ -102,29 +102,29 @@ module _ (p : Pool) (sound : sound_of p ≡ true) (long : Shaped p) (a : Placed 
   leaves id e = eqb-true _ _ (one_eq _ e)
 
   slot_counted : (g : ℕ) → 0 < (slot_at p g).id → 0 < count_below 32 (λ i. eqb (get_or p.slot_id i 0) (slot_at p g).id)
-  slot_counted g l = count_some 32 (λ i. eqb (get_or p.slot_id i 0) (slot_at p g).id) g (slot-below g l) (eq-eqb (slot_at p g).id (slot_at p g).id refl)
+  slot_counted g l = count_some 32 (λ i. eqb (get_or p.slot_id i 0) (slot_at p g).id) g (slot_below g l) (eq-eqb (slot_at p g).id (slot_at p g).id refl)
 
   pub spread : Spread (slot_at p) (state_of p) (mover_at p)
   spread =
       record {
         slot_leaves = λ g l.
-            leaves _ (omega (arith, slot_counted g l, a.places (slot_at p g).id l (slot_id_lem g (slot-below g l)), one_le (eqb (state_of p (slot_at p g).id) 2)));
+            leaves _ (omega (arith, slot_counted g l, a.places (slot_at p g).id l (slot_id_lem g (slot_below g l)), one_le (eqb (state_of p (slot_at p g).id) 2)));
         set_leaves = λ k b l m.
             let t = one_true _ m in
             let near = set_below k b t in
-            leaves b (member_wanted a k near b l (set-id k b near t) t);
-        slot-set = λ g k l. not_pos _ (λ m.
+            leaves b (member_wanted a k near b l (set_id k b near t) t);
+        slot_set = λ g k l. not_pos _ (λ m.
             let t = one_true _ m in
             let near = set_below k _ t in
-            absurd (false≢true (sym (slot-alone a k near (slot_at p g).id g l (slot_id_lem g (slot-below g l)) (slot-below g l) refl) ∙ t)));
-        set-set = λ k j b n l m. not_pos _ (λ o.
+            absurd (false≢true (sym (slot_alone a k near (slot_at p g).id g l (slot_id_lem g (slot_below g l)) (slot_below g l) refl) ∙ t)));
+        set_set = λ k j b n l m. not_pos _ (λ o.
             let t = one_true _ m in
             let u : member_of (set_at p j) b ≡ true = one_true _ o in
             let near = set_below k b t in
             omega (
               arith,
               count_two 8 (λ k. member_of (set_at p k) b) k j near (set_below j b u) n t u,
-              a.places b l (set-id k b near t),
+              a.places b l (set_id k b near t),
               one_le (eqb (state_of p b) 2),
             ));
         empty = λ k b l. not_pos _ (λ m.

@@ -32,8 +32,8 @@ module _ (k : ℕ) (p : Pool) where
   earlier_failure t = let n = eqb-false ((worker_at p k).attempts + 1) _ t in λ z. n (omega arith)
 
   -- 28: what is collected is a buffer, and not the one that the guard was posted on
-  pub collects-some : unposted k p ≡ true → 0 < (worker_at p k).h.id
-  collects-some t = some_id _ (and_left (not (eqb (worker_at p k).h.id 0)) _ t)
+  pub collects_some : unposted k p ≡ true → 0 < (worker_at p k).h.id
+  collects_some t = some_id _ (and_left (not (eqb (worker_at p k).h.id 0)) _ t)
 
-  pub collects-unposted : unposted k p ≡ true → (worker_at p k).h.id ≢ (worker_at p k).v
-  collects-unposted t = eqb-false _ _ (not-true _ (and_right (not (eqb (worker_at p k).h.id 0)) _ t))
+  pub collects_unposted : unposted k p ≡ true → (worker_at p k).h.id ≢ (worker_at p k).v
+  collects_unposted t = eqb-false _ _ (not-true _ (and_right (not (eqb (worker_at p k).h.id 0)) _ t))

@@ -29,7 +29,7 @@ use Rattle.pool.specs.Steps.{i_of, posted_here, slot_here, unchanged, unposted, 
 use Rattle.pool.specs.ForProofs.Ready.{Stands}
 use Rattle.pool.proofs.Firsts.{first_both}
 use Rattle.pool.proofs.Checked.{Begun, begun, fires, posts, gives_up}
-use Rattle.pool.proofs.Standing.{stands, standing, in_use, worker-below, ready}
+use Rattle.pool.proofs.Standing.{stands, standing, in_use, worker_below, ready}
 use Rattle.rules.specs.Calls.{Call, hiring, firing, posting, giving_up, taking, asking, advancing, call}
 use Rattle.rules.proofs.EachLine.{by_line}
 use Rattle.history.specs.States.{is_accepted}
@@ -37,12 +37,12 @@ use Rattle.history.specs.Holds.{changed, is_posted, begins_post, held_by, comple
 use Rattle.history.specs.History.{History}
 use Rattle.rules.proofs.Outcomes.{after_both}
 use Rattle.history.proofs.Places.{exchange_change, collect_change, same_id}
-use Rattle.history.proofs.Tests.{some_id, past_maxg, same_version, third_failure, earlier_failure, collects-some, collects-unposted}
-use Rattle.history.proofs.Changed.{changed_case, changed-same, set-changed}
+use Rattle.history.proofs.Tests.{some_id, past_maxg, same_version, third_failure, earlier_failure, collects_some, collects_unposted}
+use Rattle.history.proofs.Changed.{changed_case, changed_same, set_changed}
 use Rattle.history.proofs.Moves.{desk, hire, s2y, s2n, s2e, s4a, s4b, s5y, s5n, s6, fire, s7, s8, post, s9, s10, w12a, w12b, w13, w15a, w15b, w18n, w22a, w22b, w25a, w25b, w25c, w28n, w31, exchanges, collects}
 use Rattle.history.proofs.Buck.{Stays}
 use Rattle.history.proofs.Spread.{mover_at, spread}
-use Rattle.history.proofs.Watching.{desk_of, Watching, Known, worker-moved, both_moved, serves, serves_on, walks, resets, stores}
+use Rattle.history.proofs.Watching.{desk_of, Watching, Known, worker_moved, both_moved, serves, serves_on, walks, resets, stores}
 
 or_none : (a b : Bool) → (a || b) ≡ false → b ≡ false
 or_none true b h = absurd (false≢true (sym h))
@@ -61,17 +61,17 @@ module _ {p : Pool} {h : History} (known : Known p h) where
   desk_taken : (g : ℕ) (t : Bool) → g < 32 → desk_of (with_taken g t p) ho ≡ desk p.maxg (changed (λ j. one (taken_at p j)) g (one t)) (employer_at p) (posted_at p) ho
   desk_taken g t l =
       let entries = shaped.taken in
-      ap (λ (f : ℕ → ℕ). desk p.maxg f (employer_at p) (posted_at p) ho) (set-changed one p.taken false g t (omega arith))
+      ap (λ (f : ℕ → ℕ). desk p.maxg f (employer_at p) (posted_at p) ho) (set_changed one p.taken false g t (omega arith))
 
   desk_employer : (g n : ℕ) → g < 32 → desk_of (with_employer g n p) ho ≡ desk p.maxg (λ j. one (taken_at p j)) (changed (employer_at p) g n) (posted_at p) ho
   desk_employer g n l =
       let entries = shaped.employers in
-      ap (λ (f : ℕ → ℕ). desk p.maxg (λ j. one (taken_at p j)) f (posted_at p) ho) (set-changed (λ (n : ℕ). n) p.employer 0 g n (omega arith))
+      ap (λ (f : ℕ → ℕ). desk p.maxg (λ j. one (taken_at p j)) f (posted_at p) ho) (set_changed (λ (n : ℕ). n) p.employer 0 g n (omega arith))
 
   desk_posted : (g n : ℕ) → g < 32 → desk_of (with_posted g n p) ho ≡ desk p.maxg (λ j. one (taken_at p j)) (employer_at p) (changed (posted_at p) g n) ho
   desk_posted g n l =
       let entries = shaped.posted in
-      ap (λ (f : ℕ → ℕ). desk p.maxg (λ j. one (taken_at p j)) (employer_at p) f ho) (set-changed (λ (n : ℕ). n) p.posted 0 g n (omega arith))
+      ap (λ (f : ℕ → ℕ). desk p.maxg (λ j. one (taken_at p j)) (employer_at p) f ho) (set_changed (λ (n : ℕ). n) p.posted 0 g n (omega arith))
 
   -- ---- begins
 
@@ -92,7 +92,7 @@ module _ {p : Pool} {h : History} (known : Known p h) where
       (λ e.
       let b = begun p (record { 0 = w }) e in
       serves_on known (w - 1) (begun_below b) _ (mover_at p (w - 1)).member _ _ (hire b.idle) (begun_empty b)
-      (worker-moved known (w - 1) (begun_below b) _) refl refl (omega arith))
+      (worker_moved known (w - 1) (begun_below b) _) refl refl (omega arith))
       (λ n place e. i)
 
   fire_watched : (w g : ℕ) → Fine (firing w g) (fire_of p (record { 0 = w }) (record { 0 = g }))
@@ -103,7 +103,7 @@ module _ {p : Pool} {h : History} (known : Known p h) where
       let f = fires p (record { 0 = w }) (record { 0 = g }) e in
       let b = f.begun in
       serves_on known (w - 1) (begun_below b) _ (mover_at p (w - 1)).member _ _ (fire g b.idle (f.guard.employed ∙ begun_number b)) (begun_empty b)
-      (worker-moved known (w - 1) (begun_below b) _) (desk_employer g 0 (omega arith)) refl (omega arith))
+      (worker_moved known (w - 1) (begun_below b) _) (desk_employer g 0 (omega arith)) refl (omega arith))
       (λ n place e. i)
 
   post_watched : (w g b : ℕ) → Fine (posting w g b) (post_of p (record { 0 = w }) (record { 0 = g }) (record { 0 = b }))
@@ -116,8 +116,8 @@ module _ {p : Pool} {h : History} (known : Known p h) where
       let n = begun_number s in
       serves known (w - 1) (begun_below s) _ (changed pg w g) (changed pb w b) (changed ho g 0) (mover_at p (w - 1)).member _ _
       (post g b s.idle (f.guard.employed ∙ n)) (begun_empty s)
-      (worker-moved known (w - 1) (begun_below s) _) refl refl
-      (λ _ _. (ap (changed pg w g) (sym n) ∙ changed-same pg w g, ap (changed pb w b) (sym n) ∙ changed-same pb w b))
+      (worker_moved known (w - 1) (begun_below s) _) refl refl
+      (λ _ _. (ap (changed pg w g) (sym n) ∙ changed_same pg w g, ap (changed pb w b) (sym n) ∙ changed_same pb w b))
       (λ j m. (other pg g j m s.worker.some, other pb b j m s.worker.some))
       (λ k. changed_case (Stays (state_of p) (ho k)) ho g 0 k (λ _. inr (λ l. absurd (omega arith))) (λ _. inl refl)))
       (λ n place e. i)
@@ -169,7 +169,7 @@ module _ {p : Pool} {h : History} (known : Known p h) where
     Line = Fine (advancing w out)
 
     below : k < 8
-    below = worker-below st
+    below = worker_below st
 
     guard_here : (n : ℕ) → x.label ≡ n → (eqb n 12 || eqb n 32) ≡ false → i_of p k < 32
     guard_here n e short = (ready p k n st e short).i_below
@@ -178,9 +178,9 @@ module _ {p : Pool} {h : History} (known : Known p h) where
     empty_here l b = (spread p sound shaped a).empty k b l
 
     -- 10: what is held was in service
-    post-ends : x.label ≡ 10 → Watching (ends k posted p).pool pg pb (changed ho (pg w) (held_by h.states (pb w)))
+    post_ends : x.label ≡ 10 → Watching (ends k posted p).pool pg pb (changed ho (pg w) (held_by h.states (pb w)))
     unfolding ends
-    post-ends e =
+    post_ends e =
         let r = i.recalls k (omega arith) (omega arith) in
         let n : w ≡ k + 1 = omega arith in
         let eg : pg w ≡ x.i = ap pg n ∙ r.0 in
@@ -193,8 +193,8 @@ module _ {p : Pool} {h : History} (known : Known p h) where
         changed_case (Stays (state_of p) (ho g)) ho (pg w) (held_by h.states (pb w)) g
         (λ _. inr (held_serves (pb w) (omega (arith, leb-true x.v p.b (in_use st).v)))) (λ _. inl refl))
 
-    changed-slot : unchanged k p ≡ false → x.h.id ≡ (slot_here p k).id → x.h.version ≡ (slot_here p k).version → ⊥
-    changed-slot t q r = false≢true (sym t ∙ rw (q, r, eq-eqb (slot_here p k).id (slot_here p k).id refl, eq-eqb (slot_here p k).version (slot_here p k).version refl))
+    changed_slot : unchanged k p ≡ false → x.h.id ≡ (slot_here p k).id → x.h.version ≡ (slot_here p k).version → ⊥
+    changed_slot t q r = false≢true (sym t ∙ rw (q, r, eq-eqb (slot_here p k).id (slot_here p k).id refl, eq-eqb (slot_here p k).version (slot_here p k).version refl))
 
     lines_watched : Line (line_of x.label k p)
     unfolding puts ends line2 line18 line28 at22 heard_posts is_posted when completes_post
@@ -202,22 +202,22 @@ module _ {p : Pool} {h : History} (known : Known p h) where
         by_line Line x.label k p
         (record {
           at2 = λ e. unless_both Line (taken_at p (i_of p k)) _ _
-              (λ t. serves_on known k below _ _ _ _ (s2y e (ap one t)) (empty_here (omega arith)) (worker-moved known k below _) (desk_taken _ _ (guard_here 2 e refl)) refl (omega arith))
+              (λ t. serves_on known k below _ _ _ _ (s2y e (ap one t)) (empty_here (omega arith)) (worker_moved known k below _) (desk_taken _ _ (guard_here 2 e refl)) refl (omega arith))
               (λ t. when_both Line (eqb (i_of p k + 1) p.g) _ _
               (λ t. serves_on known k below _ _ _ _ (s2e e) none_empty (both_moved known k below no_worker no_ids) refl refl (omega arith))
-              (λ t. serves_on known k below _ _ _ _ (s2n e) (empty_here (omega arith)) (worker-moved known k below _) refl refl (omega arith)));
+              (λ t. serves_on known k below _ _ _ _ (s2n e) (empty_here (omega arith)) (worker_moved known k below _) refl refl (omega arith)));
           at4 = λ e. when_both (λ n. Watching (with_worker k (to n (with_max p.maxg x)) p) pg pb ho) _ 5 6
-              (λ t. serves_on known k below _ _ _ _ (s4a e (ltb-true _ _ t)) (empty_here (omega arith)) (worker-moved known k below _) refl refl (omega arith))
-              (λ t. serves_on known k below _ _ _ _ (s4b e (ltb-false _ _ t)) (empty_here (omega arith)) (worker-moved known k below _) refl refl (omega arith));
+              (λ t. serves_on known k below _ _ _ _ (s4a e (ltb-true _ _ t)) (empty_here (omega arith)) (worker_moved known k below _) refl refl (omega arith))
+              (λ t. serves_on known k below _ _ _ _ (s4b e (ltb-false _ _ t)) (empty_here (omega arith)) (worker_moved known k below _) refl refl (omega arith));
           at5 = λ e. when_both (λ n. Watching (with_worker k (to 4 x) (with_maxg n p)) pg pb ho) _ _ _
-              (λ t. serves_on known k below _ _ _ _ (s5y e (eqb-true _ _ t)) (empty_here (omega arith)) (worker-moved known k below _) refl refl (omega arith))
-              (λ t. serves_on known k below _ _ _ _ (s5n e) (empty_here (omega arith)) (worker-moved known k below _) refl refl (omega arith));
+              (λ t. serves_on known k below _ _ _ _ (s5y e (eqb-true _ _ t)) (empty_here (omega arith)) (worker_moved known k below _) refl refl (omega arith))
+              (λ t. serves_on known k below _ _ _ _ (s5n e) (empty_here (omega arith)) (worker_moved known k below _) refl refl (omega arith));
           at6 = λ e. serves_on known k below _ _ _ _ (s6 e) none_empty (both_moved known k below no_worker no_ids) (desk_employer _ _ (guard_here 6 e refl)) refl (omega arith);
-          at7 = λ e. serves_on known k below _ _ _ _ (s7 e) (empty_here (omega arith)) (worker-moved known k below _) (desk_taken _ _ (guard_here 7 e refl)) refl (omega arith);
+          at7 = λ e. serves_on known k below _ _ _ _ (s7 e) (empty_here (omega arith)) (worker_moved known k below _) (desk_taken _ _ (guard_here 7 e refl)) refl (omega arith);
           at8 = λ e. serves_on known k below _ _ _ _ (s8 e) none_empty (both_moved known k below no_worker no_ids) refl refl (omega arith);
-          at9 = λ e. serves_on known k below _ _ _ _ (s9 e) (empty_here (omega arith)) (worker-moved known k below _) (desk_posted _ _ (guard_here 9 e refl)) refl
+          at9 = λ e. serves_on known k below _ _ _ _ (s9 e) (empty_here (omega arith)) (worker_moved known k below _) (desk_posted _ _ (guard_here 9 e refl)) refl
               (λ _ _. i.recalls k (omega arith) (omega arith));
-          at10 = λ e. post-ends e;
+          at10 = λ e. post_ends e;
           at12 = λ e. when_both (λ n. Watching (with_worker k (to n x) p) pg pb ho) _ 13 32
               (λ t. walks known k below _ (w12a e)) (λ t. walks known k below _ (w12b e (past_maxg k p t)));
           at13 = λ e. walks known k below _ (w13 e);
@@ -225,7 +225,7 @@ module _ {p : Pool} {h : History} (known : Known p h) where
               (λ t.
               walks known k below _ (w15a e (some_id _ (and_left (not (eqb (posted_here p k) 0)) _ t)) (ap one (and_right (not (eqb (posted_here p k) 0)) _ t))))
               (λ t. walks known k below _ (w15b e (λ l. ap one (rw (ne_eqb (posted_here p k) 0 (λ z. omega arith)) at t))));
-          at18 = λ e. unless_both Line _ _ _ (λ t. walks known k below _ (w18n e (changed-slot t)))
+          at18 = λ e. unless_both Line _ _ _ (λ t. walks known k below _ (w18n e (changed_slot t)))
               (λ t.
               stores known k below x.v _ (exchanges e) (guard_here 18 e refl) (sym (same_id p sound shaped a k st t)) (same_version k p t) (λ b lo hi.
               exchange_change p sound shaped a k st e (same_id p sound shaped a k st t) b lo hi (ℕ_discrete b x.v) (ℕ_discrete b x.h.id)));
@@ -241,7 +241,7 @@ module _ {p : Pool} {h : History} (known : Known p h) where
               (λ t.
               let u = and_right (unposted k p) (unchanged k p) t in
               let c = and_left (unposted k p) (unchanged k p) t in
-              stores known k below 0 _ (collects e (collects-some k p c) (collects-unposted k p c)) (guard_here 28 e refl) (sym (same_id p sound shaped a k st u)) (same_version k p u) (λ b lo hi.
+              stores known k below 0 _ (collects e (collects_some k p c) (collects_unposted k p c)) (guard_here 28 e refl) (sym (same_id p sound shaped a k st u)) (same_version k p u) (λ b lo hi.
               collect_change p sound shaped a k st e (same_id p sound shaped a k st u) b lo hi (ℕ_discrete b x.h.id)));
           at31 = λ e. walks known k below _ (w31 e);
           at32 = λ none. resets known k below _ no_worker no_ids (both_moved known k below no_worker no_ids) refl refl (omega arith) (omega arith) (λ g _ m. absurd (omega (arith, none_empty (ho g))));

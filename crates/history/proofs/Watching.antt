@@ -28,7 +28,7 @@ use Rattle.history.proofs.Placed.{Placed}
 use Rattle.history.proofs.Moves.{Mover, Desk, desk, Serve, hire, s2y, s2n, s2e, s4a, s4b, s5y, s5n, s6, fire, s7, s8, post, s9, s10, Walk, w12a, w12b, w13, w15a, w15b, w18n, w22a, w22b, w25a, w25b, w25c, w28n, w31, Store}
 use Rattle.history.proofs.Guards.{Guards, off_desk, serve_guards}
 use Rattle.history.proofs.Buck.{Buck, Ahead, Stays, reset, rehold, walk_buck, store_buck}
-use Rattle.history.proofs.Spread.{seen, mover_at, spread, posted-id}
+use Rattle.history.proofs.Spread.{seen, mover_at, spread, posted_id}
 
 abbrev pub desk_of : Pool → (ℕ → ℕ) → Desk
 desk_of p holds = desk p.maxg (λ i. one (taken_at p i)) (employer_at p) (posted_at p) holds
@@ -98,14 +98,14 @@ module _ {p : Pool} {h : History} (known : Known p h) where
   hold_low g =
       by_eq (ho g) 0 (λ e. omega arith) (λ n.
       let s = (i.guards.guard g).stands (omega arith) in
-      omega (arith, posted-id p sound shaped a g (omega (arith, sizes_of p sound)), s.0))
+      omega (arith, posted_id p sound shaped a g (omega (arith, sizes_of p sound)), s.0))
 
   module _ (k : ℕ) (below : k < 8) where
     abbrev x : Mover
     x = mover_at p k
 
-    pub worker-moved : (y : Worker) → (λ (j : ℕ). seen (get_or (set p.workers k y) j no_worker) (set_at p j)) ≡ changed (mover_at p) k (seen y (set_at p k))
-    worker-moved y =
+    pub worker_moved : (y : Worker) → (λ (j : ℕ). seen (get_or (set p.workers k y) j no_worker) (set_at p j)) ≡ changed (mover_at p) k (seen y (set_at p k))
+    worker_moved y =
         let workers-long = shaped.workers in
         changed_ext (mover_at p) (λ (j : ℕ). seen (get_or (set p.workers k y) j no_worker) (set_at p j)) k (seen y (set_at p k))
         (ap (λ (x : Worker). seen x (set_at p k)) (get_or-set_same p.workers k y no_worker (omega arith)))
@@ -133,8 +133,8 @@ module _ {p : Pool} {h : History} (known : Known p h) where
           buck = subst⁻¹ (λ (m : ℕ → Mover). Buck (slot_at p') ho' m) e b;
         }
 
-    same-others : (j : ℕ) → j ≢ k → (pg (j + 1) ≡ pg (j + 1)) × (pb (j + 1) ≡ pb (j + 1))
-    same-others j n = (refl, refl)
+    same_others : (j : ℕ) → j ≢ k → (pg (j + 1) ≡ pg (j + 1)) × (pb (j + 1) ≡ pb (j + 1))
+    same_others j n = (refl, refl)
 
     -- a hire, a fire or a post, which leave the set s empty
     pub serves : (p' : Pool) (pg' pb' ho' s : ℕ → ℕ) (d' : Desk) (x' : Mover) → Serve (desk_of p ho) k x s d' x' → ((b : ℕ) → s b ≡ 0)
@@ -153,12 +153,12 @@ module _ {p : Pool} {h : History} (known : Known p h) where
     pub serves_on : (p' : Pool) (s : ℕ → ℕ) (d' : Desk) (x' : Mover) → Serve (desk_of p ho) k x s d' x' → ((b : ℕ) → s b ≡ 0)
         → mover_at p' ≡ changed (mover_at p) k x' → desk_of p' ho ≡ d' → slot_at p' ≡ slot_at p → Recalls (pg (k + 1)) (pb (k + 1)) x'
         → Watching p' pg pb ho
-    serves_on p' s d' x' m z e ed es own = serves p' pg pb ho s d' x' m z e ed es own same-others (λ g. inl refl)
+    serves_on p' s d' x' m z e ed es own = serves p' pg pb ho s d' x' m z e ed es own same_others (λ g. inl refl)
 
     pub walks : (y : Worker) → Walk p.maxg (posted_at p (i_of p k)) (slot_at p (i_of p k)) x (seen y (set_at p k)) → Watching (with_worker k y p) pg pb ho
     walks y m =
         let after = walked m in
-        rebuild (with_worker k y p) pg pb ho (seen y (set_at p k)) (worker-moved y) (λ l u. absurd (omega arith)) same-others
+        rebuild (with_worker k y p) pg pb ho (seen y (set_at p k)) (worker_moved y) (λ l u. absurd (omega arith)) same_others
         (off_desk (desk_of p ho) (mover_at p) k (seen y (set_at p k)) i.guards (λ l u. omega arith))
         (walk_buck (desk_of p ho) (slot_at p) (state_of p) (mover_at p) i.guards (spread p sound shaped a) i.buck k (seen y (set_at p k)) m)
 
@@ -166,7 +166,7 @@ module _ {p : Pool} {h : History} (known : Known p h) where
     pub resets : (p' : Pool) (y : Worker) (s : IdSet) → mover_at p' ≡ changed (mover_at p) k (seen y s) → desk_of p' ho ≡ desk_of p ho → slot_at p' ≡ slot_at p
         → y.label < 15 → (4 ≤ y.label → y.label ≤ 10 → ⊥) → ((g : ℕ) → Ahead g (ho g) (seen y s)) → Watching p' pg pb ho
     resets p' y s e ed es l away ahead =
-        rebuild p' pg pb ho (seen y s) e (λ a b. absurd (away (omega arith) b)) same-others
+        rebuild p' pg pb ho (seen y s) e (λ a b. absurd (away (omega arith) b)) same_others
         (subst⁻¹ (λ (d : Desk). Guards d (changed (mover_at p) k (seen y s))) ed (off_desk (desk_of p ho) (mover_at p) k (seen y s) i.guards away))
         (subst⁻¹ (λ (sl : ℕ → Slot). Buck sl ho (changed (mover_at p) k (seen y s))) es (reset (slot_at p) ho (mover_at p) i.buck k (seen y s) l ahead))
 
@@ -177,13 +177,13 @@ module _ {p : Pool} {h : History} (known : Known p h) where
     stores c s m l hi hv law =
         let y : Worker = to 31 (worker_at p k) in
         rebuild (with_worker k y (with_set k s (refilled k c p))) pg pb ho (seen y s) (both_moved y s)
-        (λ l u. absurd (omega arith)) same-others
+        (λ l u. absurd (omega arith)) same_others
         (off_desk (desk_of p ho) (mover_at p) k (seen y s) i.guards (λ l u. omega arith))
-        (subst⁻¹ (λ (sl : ℕ → Slot). Buck sl ho (changed (mover_at p) k (seen y s))) refilled-slot
+        (subst⁻¹ (λ (sl : ℕ → Slot). Buck sl ho (changed (mover_at p) k (seen y s))) refilled_slot
         (store_buck (desk_of p ho) (slot_at p) (state_of p) (mover_at p) i.guards (spread p sound shaped a) i.buck k c (λ b. one (member_of s b)) hi hv m p.b hold_low law))
       where
-        refilled-slot : slot_at (refilled k c p) ≡ changed (slot_at p) (i_of p k) (record { id = c; version = (slot_at p (i_of p k)).version + 1 })
-        refilled-slot =
+        refilled_slot : slot_at (refilled k c p) ≡ changed (slot_at p) (i_of p k) (record { id = c; version = (slot_at p (i_of p k)).version + 1 })
+        refilled_slot =
             let version : ℕ = (slot_at p (i_of p k)).version + 1 in
             let ids-long = shaped.slot_ids in
             let versions-long = shaped.slot_versions in

@@ -24,8 +24,8 @@ unfoldable pub run5 : List Call
 run5 = case1.calls ++ case5.calls
 
 -- the same but for the last advance
-unfoldable pub before-empty : List Call
-before-empty = case1.calls ++ (taking 1 ∷ posting 1 0 1 ∷ advances 1 2) ++ (giving_up 2 (1 ∷ []) ∷ advances 2 6)
+unfoldable pub before_empty : List Call
+before_empty = case1.calls ++ (taking 1 ∷ posting 1 0 1 ∷ advances 1 2) ++ (giving_up 2 (1 ∷ []) ∷ advances 2 6)
 
 unfoldable pub run6 : List Call
 run6 = run5 ++ case6.calls
@@ -35,15 +35,15 @@ run7 = run5 ++ case7.calls
 
 pub record HeldAndKept : Type 0 where
   -- guard 0 holds buffer 1, and the give-up of it hands nothing back
-  pub five-before : (told_by before-empty).posts.holds 0 ≡ 1
+  pub five_before : (told_by before_empty).posts.holds 0 ≡ 1
   pub five : (told_by run5).posts.holds 0 ≡ 1
-  pub five-back : (told_by run5).back ≡ 0
+  pub five_back : (told_by run5).back ≡ 0
   -- stood down, it holds nothing, and the next give-up hands buffer 1 back
   pub six : (told_by run6).posts.holds 0 ≡ 0
-  pub six-back : (told_by run6).back ≡ 1
+  pub six_back : (told_by run6).back ≡ 1
   -- posted on buffer 2, it holds that, and the give-up of 2 hands 1 back
   pub seven : (told_by run7).posts.holds 0 ≡ 2
-  pub seven-back : (told_by run7).back ≡ 1
+  pub seven_back : (told_by run7).back ≡ 1
 
 -- ---- guard 1 and buffer 3
 
@@ -52,22 +52,22 @@ unfoldable pub before_back : List Call
 before_back = case1.calls ++ case2.calls ++ (taking 1 ∷ taking 2 ∷ taking 3 ∷ posting 2 1 3 ∷ advances 2 2) ++ (giving_up 1 (3 ∷ 1 ∷ []) ∷ advances 1 11)
 
 -- that advance, and then the give-up of 2 begins
-unfoldable pub after-back : List Call
-after-back = before_back ++ advances 1 1 ++ (giving_up 1 (2 ∷ []) ∷ [])
+unfoldable pub after_back : List Call
+after_back = before_back ++ advances 1 1 ++ (giving_up 1 (2 ∷ []) ∷ [])
 
 pub record HeldByAnother : Type 0 where
   -- guard 1 holds buffer 3 while worker 1's give-up ends, and afterwards
-  pub held-before : (told_by before_back).posts.holds 1 ≡ 3
-  pub held_after : (told_by after-back).posts.holds 1 ≡ 3
+  pub held_before : (told_by before_back).posts.holds 1 ≡ 3
+  pub held_after : (told_by after_back).posts.holds 1 ≡ 3
   -- 3 given up = 1 handed back + 1 in a slot + 1 in a set
-  pub given : (told_by after-back).given ≡ 3
-  pub back : (told_by after-back).back ≡ 1
-  pub slots : in_slots (left_by after-back) ≡ 1
-  pub sets : in_sets (left_by after-back) ≡ 1
+  pub given : (told_by after_back).given ≡ 3
+  pub back : (told_by after_back).back ≡ 1
+  pub slots : in_slots (left_by after_back) ≡ 1
+  pub sets : in_sets (left_by after_back) ≡ 1
   -- buffer 1 is free again, and the others leave
-  pub free : (told_by after-back).states 1 ≡ 0
-  pub leaving : (told_by after-back).states 2 ≡ 2
-  pub kept : (told_by after-back).states 3 ≡ 2
+  pub free : (told_by after_back).states 1 ≡ 0
+  pub leaving : (told_by after_back).states 2 ≡ 2
+  pub kept : (told_by after_back).states 3 ≡ 2
 
 -- ---- what the theorem says of these runs
 
@@ -78,10 +78,10 @@ KeepsBack calls w id =
 
 pub record KeptBack : Type 0 where
   -- what guard 0 holds, and what guard 1 holds
-  pub first : KeepsBack before-empty 2 1
+  pub first : KeepsBack before_empty 2 1
   pub another : KeepsBack before_back 1 3
   -- one buffer is free, one in a set and one in a slot: each in one place
-  pub free-place : times_placed (left_by after-back) (told_by after-back) 1 ≡ 1
-  pub set-place : times_placed (left_by after-back) (told_by after-back) 2 ≡ 1
-  pub slot-place : times_placed (left_by after-back) (told_by after-back) 3 ≡ 1
-  pub counts : 3 ≡ 1 + in_slots (left_by after-back) + in_sets (left_by after-back)
+  pub free_place : times_placed (left_by after_back) (told_by after_back) 1 ≡ 1
+  pub set_place : times_placed (left_by after_back) (told_by after_back) 2 ≡ 1
+  pub slot_place : times_placed (left_by after_back) (told_by after_back) 3 ≡ 1
+  pub counts : 3 ≡ 1 + in_slots (left_by after_back) + in_sets (left_by after_back)

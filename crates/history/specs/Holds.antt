@@ -2,7 +2,7 @@
 -- from the advance that completes a post on it, if it is then in service, until the next post on that guard begins.
 use Rattle.std.specs.Prelude.{ℕ, Bool, true, false, eqb}
 use Rattle.basics.specs.Pick.{when}
-use Rattle.pool.specs.Answers.{Said, accepted, yes, no, None-found, fired, posted, clear, label, guard, back, count, fault, refused}
+use Rattle.pool.specs.Answers.{Said, accepted, yes, no, none_found, fired, posted, clear, label, guard, back, count, fault, refused}
 use Rattle.rules.specs.Calls.{Call, hiring, firing, posting, giving_up, taking, asking, advancing}
 use Rattle.history.specs.States.{States, is_accepted}
 
@@ -20,7 +20,7 @@ unfoldable pub is_posted : Said → Bool
 is_posted accepted = false
 is_posted yes = false
 is_posted no = false
-is_posted None-found = false
+is_posted none_found = false
 is_posted fired = false
 is_posted posted = true
 is_posted clear = false

@@ -2,7 +2,7 @@
 use Rattle.std.specs.Prelude.{ℕ, Bool, true, false, ◌&&◌, List, eqb}
 use Rattle.basics.specs.Pick.{when}
 use Rattle.basics.specs.Among.{among_first, among}
-use Rattle.pool.specs.Answers.{Said, accepted, yes, no, None-found, fired, posted, clear, label, guard, back, count, fault, refused}
+use Rattle.pool.specs.Answers.{Said, accepted, yes, no, none_found, fired, posted, clear, label, guard, back, count, fault, refused}
 use Rattle.rules.specs.Calls.{Call, hiring, firing, posting, giving_up, taking, asking, advancing}
 
 -- 0 free, 1 in service, 2 leaving, of each buffer
@@ -13,7 +13,7 @@ unfoldable pub is_accepted : Said → Bool
 is_accepted accepted = true
 is_accepted yes = false
 is_accepted no = false
-is_accepted None-found = false
+is_accepted none_found = false
 is_accepted fired = false
 is_accepted posted = false
 is_accepted clear = false
@@ -29,7 +29,7 @@ unfoldable pub handed_back : Said → ℕ
 handed_back accepted = 0
 handed_back yes = 0
 handed_back no = 0
-handed_back None-found = 0
+handed_back none_found = 0
 handed_back fired = 0
 handed_back posted = 0
 handed_back clear = 0

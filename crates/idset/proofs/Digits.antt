@@ -126,9 +126,9 @@ pub digit_shr : (n m k : ℕ) → digit (n / 2 ^ m) k ≡ digit n (m + k)
 unfolding digit
 digit_shr n m k = ap (λ (x : ℕ). eqb (x % 2) 1) (shr-shr n m k)
 
-pub digit-short : {n : ℕ} (k j : ℕ) → n < 2 ^ k → digit n j ≡ true → j < k
+pub digit_short : {n : ℕ} (k j : ℕ) → n < 2 ^ k → digit n j ≡ true → j < k
 unfolding digit
-digit-short {n} k j h e = lt_of_not-le (λ l.
+digit_short {n} k j h e = lt_of_not-le (λ l.
     true≢false (sym e ∙ ap (λ (x : ℕ). eqb (x % 2) 1) (div-eq_of_lt (lt_of_lt_of_le h (pow_mono l)))))
 
 -- ---- trailing zeros: the place of the lowest digit that is set
@@ -187,14 +187,14 @@ unfolding pack
 pack_lt p zero = zero-lt-suc 0
 pack_lt p (suc n) = omega (arith, pow-suc 2 n, one_lt (p 0), pack_lt (λ k. p (suc k)) n)
 
-pub pack-digit : (p : ℕ → Bool) (n k : ℕ) → k < n → digit (pack p n) k ≡ p k
+pub pack_digit : (p : ℕ → Bool) (n k : ℕ) → k < n → digit (pack p n) k ≡ p k
 unfolding pack
-pack-digit p zero k h = absurd (not-suc-le-zero h)
-pack-digit p (suc n) zero h =
+pack_digit p zero k h = absurd (not-suc-le-zero h)
+pack_digit p (suc n) zero h =
     let r = pack (λ k. p (suc k)) n in
     let low : (one (p 0) + 2 * r) % 2 ≡ one (p 0) = omega (arith, one_lt (p 0)) in
     digit_zero (one (p 0) + 2 * r) ∙ ap (λ (x : ℕ). eqb x 1) low ∙ one_is (p 0)
-pack-digit p (suc n) (suc k) h =
+pack_digit p (suc n) (suc k) h =
     let r = pack (λ k. p (suc k)) n in
     let high : (one (p 0) + 2 * r) / 2 ≡ r = omega (arith, one_lt (p 0)) in
-    digit_suc (one (p 0) + 2 * r) k ∙ ap (λ (x : ℕ). digit x k) high ∙ pack-digit (λ k. p (suc k)) n k (le_of_suc-le-suc h)
+    digit_suc (one (p 0) + 2 * r) k ∙ ap (λ (x : ℕ). digit x k) high ∙ pack_digit (λ k. p (suc k)) n k (le_of_suc-le-suc h)

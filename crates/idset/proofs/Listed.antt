@@ -16,7 +16,7 @@ use Rattle.basics.proofs.Truth.{by_order}
 use Rattle.basics.proofs.Count.{count_none, count_front, count_cong}
 use Rattle.idset.specs.declared.IdSet.{IdSet}
 use Rattle.idset.specs.Members.{digit, member_of, size_of, next_mark, ids_of, above, members_of}
-use Rattle.idset.proofs.Members.{member-at}
+use Rattle.idset.proofs.Members.{member_at}
 use Rattle.idset.proofs.Marks.{Mark, mark_is}
 
 ids_skip : (p : ℕ → Bool) (t n b : ℕ) → ((j : ℕ) → j < t → p (b + j) ≡ false) → ids_of p (t + n) b ≡ ids_of p n (b + t)
@@ -71,7 +71,7 @@ module _ (s : IdSet) (i m : ℕ) {r : ℕ} (hi : i < 4) (e : r ≡ next_mark (ge
   mark = subst (Mark (get_or s.words i 0) m) (sym e) (mark_is (get_or s.words i 0) m)
 
   member_in : (b j : ℕ) → j < 64 → b ≡ 64 * i + j + 1 → member_of s b ≡ digit (get_or s.words i 0) j
-  member_in b j l q = let q' : b ≡ suc (i * 64 + j) = omega arith in ap (member_of s) q' ∙ member-at s i j hi l
+  member_in b j l q = let q' : b ≡ suc (i * 64 + j) = omega arith in ap (member_of s) q' ∙ member_at s i j hi l
 
   pub mark_passed : m ≤ 64 → Passed s (64 * i + m) (64 * i + r)
   mark_passed h =

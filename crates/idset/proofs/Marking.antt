@@ -12,7 +12,7 @@ use Rattle.basics.specs.Among.{among_first, among}
 use Rattle.basics.proofs.Truth.{eqb_same}
 use Rattle.idset.specs.declared.IdSet.{IdSet}
 use Rattle.idset.specs.Members.{is_id, member_of, set_of, MarksAlone, no_ids, with_of}
-use Rattle.idset.proofs.Members.{formed_by, member-set_of, set_of_self, set_of_cong}
+use Rattle.idset.proofs.Members.{formed_by, member_set_of, set_of_self, set_of_cong}
 
 -- before the first entry
 pub met_none : (l : List ℕ) {s : IdSet} → s ≡ no_ids → s ≡ set_of (among_first l 0)
@@ -26,7 +26,7 @@ module _ (l : List ℕ) (k : ℕ) {s : IdSet} (e : s ≡ set_of (among_first l k
 
   -- an id is marked exactly when it is among them
   pub met_before : (x : ℕ) → is_id x ≡ true → member_of s x ≡ among_first l k x
-  met_before x h = ap (λ (t : IdSet). member_of t x) e ∙ member-set_of (among_first l k) x ∙ ap (λ (t : Bool). t && among_first l k x) h
+  met_before x h = ap (λ (t : IdSet). member_of t x) e ∙ member_set_of (among_first l k) x ∙ ap (λ (t : Bool). t && among_first l k x) h
 
   -- the next one is marked
   pub met_again : {next : IdSet} → next ≡ with_of s (get_or l k 0) → next ≡ set_of (among_first l (k + 1))

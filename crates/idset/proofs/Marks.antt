@@ -9,7 +9,7 @@ use lib.Count.{count_trailing_zeros}
 use Rattle.basics.specs.Pick.{when}
 use Rattle.basics.proofs.Truth.{by_order}
 use Rattle.idset.specs.Members.{digit, first_mark, next_mark}
-use Rattle.idset.proofs.Digits.{digit_shr, digit-short, digit_none, trailing_lowest}
+use Rattle.idset.proofs.Digits.{digit_shr, digit_short, digit_none, trailing_lowest}
 
 -- r is the first mark of w at m or above, or 64 where there is none
 pub record Mark (w m r : ℕ) : Type 0 where
@@ -70,12 +70,12 @@ module _ (w m : ℕ) where
     none = λ j lo up. shifted j lo ∙ ap (λ (x : ℕ). digit x (j - m)) z ∙ digit_none (j - m);
   })
 
-  pub next-some : w < 2 ^ 64 → (w / 2 ^ m ≡ 0 → ⊥) → m + count_trailing_zeros 64 (w / 2 ^ m) ≡ next_mark w m
-  next-some h f =
+  pub next_some : w < 2 ^ 64 → (w / 2 ^ m ≡ 0 → ⊥) → m + count_trailing_zeros 64 (w / 2 ^ m) ≡ next_mark w m
+  next_some h f =
       let t = count_trailing_zeros 64 (w / 2 ^ m) in
       let low = (trailing_lowest 64 (w / 2 ^ m) (lt_of_le_of_lt (shr_le w m) h) f).1 in
       let here : digit w (m + t) ≡ true = sym (digit_shr w m t) ∙ low.here in
-      let l : m + t < 64 = digit-short 64 (m + t) h here in
+      let l : m + t < 64 = digit_short 64 (m + t) h here in
       mark_only (record {
         top = omega arith;
         found = λ g. (omega arith, here);

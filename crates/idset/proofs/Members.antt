@@ -18,7 +18,7 @@ use borrow.Author.Tests.{le-leb, leb-true, ne_eqb, eqb-true}
 use Rattle.basics.proofs.Truth.{and_left, and_right, and_cong, and_swap, is_false, eqb_same}
 use Rattle.idset.specs.declared.IdSet.{IdSet}
 use Rattle.idset.specs.Members.{digit, is_id, member_of, word_of, set_of, no_ids, with_of, without_of}
-use Rattle.idset.proofs.Digits.{digits_ext, pack_lt, pack-digit}
+use Rattle.idset.proofs.Digits.{digits_ext, pack_lt, pack_digit}
 
 -- ---- ids
 
@@ -36,17 +36,17 @@ id_high b e = leb-true b 256 (and_right (leb 1 b) (leb b 256) e)
 
 -- ---- members are ids; the member at a word and a digit
 
-pub member-id : (s : IdSet) (b : ℕ) → member_of s b ≡ true → is_id b ≡ true
+pub member_id : (s : IdSet) (b : ℕ) → member_of s b ≡ true → is_id b ≡ true
 unfolding member_of
-member-id s b e = and_left (is_id b) (digit (get_or s.words ((b - 1) / 64) 0) ((b - 1) % 64)) e
+member_id s b e = and_left (is_id b) (digit (get_or s.words ((b - 1) / 64) 0) ((b - 1) % 64)) e
 
 pub member_is : (s : IdSet) (b : ℕ) → member_of s b ≡ (is_id b && member_of s b)
 unfolding member_of
 member_is s b = sym (and_self_left (is_id b) (digit (get_or s.words ((b - 1) / 64) 0) ((b - 1) % 64)))
 
-pub member-at : (s : IdSet) (i j : ℕ) → i < 4 → j < 64 → member_of s (suc (i * 64 + j)) ≡ digit (get_or s.words i 0) j
+pub member_at : (s : IdSet) (i j : ℕ) → i < 4 → j < 64 → member_of s (suc (i * 64 + j)) ≡ digit (get_or s.words i 0) j
 unfolding member_of
-member-at s i j hi hj =
+member_at s i j hi hj =
     let b = suc (i * 64 + j) in
     let q : (b - 1) / 64 ≡ i = omega arith in
     let r : (b - 1) % 64 ≡ j = omega arith in
@@ -81,7 +81,7 @@ member_ext {s} {t} hs ht e =
     (ext_get_or 0 s.words t.words (hs.four ∙ sym ht.four) (λ i h.
     let l : i < 4 = subst (λ (n : ℕ). i < n) hs.four h in
     digits_ext 64 (get_or s.words i 0) (get_or t.words i 0) (hs.fit i) (ht.fit i) (λ j k.
-    sym (member-at s i j l k) ∙ e (suc (i * 64 + j)) ∙ member-at t i j l k)))
+    sym (member_at s i j l k) ∙ e (suc (i * 64 + j)) ∙ member_at t i j l k)))
 
 -- ---- the set of the ids that p holds of
 
@@ -101,26 +101,26 @@ set_of_formed p =
 pub formed_by : {s : IdSet} (p : ℕ → Bool) → s ≡ set_of p → Formed s
 formed_by p e = subst Formed (sym e) (set_of_formed p)
 
-pub member-set_of : (p : ℕ → Bool) (b : ℕ) → member_of (set_of p) b ≡ (is_id b && p b)
+pub member_set_of : (p : ℕ → Bool) (b : ℕ) → member_of (set_of p) b ≡ (is_id b && p b)
 unfolding member_of word_of
-member-set_of p b = and_cong (is_id b) (λ e.
+member_set_of p b = and_cong (is_id b) (λ e.
     let i = (b - 1) / 64 in
     let j = (b - 1) % 64 in
     let lo = id_low b e in
     let hi = id_high b e in
     let back : suc (i * 64 + j) ≡ b = omega arith in
-    ap (λ (w : ℕ). digit w j) (word_at p i (omega arith)) ∙ pack-digit (λ k. p (suc (i * 64 + k))) 64 j (omega arith) ∙ ap p back)
+    ap (λ (w : ℕ). digit w j) (word_at p i (omega arith)) ∙ pack_digit (λ k. p (suc (i * 64 + k))) 64 j (omega arith) ∙ ap p back)
 
 -- what a set must be, by its members
 pub set_of_eq : {s : IdSet} (p : ℕ → Bool) → Formed s → ((b : ℕ) → is_id b ≡ true → member_of s b ≡ p b) → s ≡ set_of p
-set_of_eq {s} p h e = member_ext h (set_of_formed p) (λ b. member_is s b ∙ and_cong (is_id b) (e b) ∙ sym (member-set_of p b))
+set_of_eq {s} p h e = member_ext h (set_of_formed p) (λ b. member_is s b ∙ and_cong (is_id b) (e b) ∙ sym (member_set_of p b))
 
 pub set_of_self : {s : IdSet} → Formed s → s ≡ set_of (member_of s)
 set_of_self {s} h = set_of_eq (member_of s) h (λ b e. refl)
 
 pub set_of_cong : {p q : ℕ → Bool} → ((b : ℕ) → is_id b ≡ true → p b ≡ q b) → set_of p ≡ set_of q
 set_of_cong {p} {q} e =
-    member_ext (set_of_formed p) (set_of_formed q) (λ b. member-set_of p b ∙ and_cong (is_id b) (e b) ∙ sym (member-set_of q b))
+    member_ext (set_of_formed p) (set_of_formed q) (λ b. member_set_of p b ∙ and_cong (is_id b) (e b) ∙ sym (member_set_of q b))
 
 -- ---- the laws of `with_of` and `without_of`
 
@@ -130,7 +130,7 @@ none_formed = set_of_formed (λ b. false)
 
 pub member_none : (b : ℕ) → member_of no_ids b ≡ false
 unfolding no_ids
-member_none b = member-set_of (λ b. false) b ∙ no (is_id b)
+member_none b = member_set_of (λ b. false) b ∙ no (is_id b)
   where
     no : (x : Bool) → (x && false) ≡ false
     no true = refl
@@ -138,7 +138,7 @@ member_none b = member-set_of (λ b. false) b ∙ no (is_id b)
 
 pub member_with : (s : IdSet) (a b : ℕ) → member_of (with_of s a) b ≡ (is_id b && (eqb b a || member_of s b))
 unfolding with_of
-member_with s a b = member-set_of (λ b. eqb b a || member_of s b) b
+member_with s a b = member_set_of (λ b. eqb b a || member_of s b) b
 
 -- a is an id
 pub member_with_id : (s : IdSet) (a b : ℕ) → is_id a ≡ true → member_of (with_of s a) b ≡ (eqb b a || member_of s b)
@@ -151,7 +151,7 @@ member_with_id s a b h = member_with s a b ∙ go (eqb b a) refl
 pub member_without : (s : IdSet) (a b : ℕ) → member_of (without_of s a) b ≡ (not (eqb b a) && member_of s b)
 unfolding without_of
 member_without s a b =
-    member-set_of (λ b. not (eqb b a) && member_of s b) b ∙ and_swap (is_id b) (not (eqb b a)) (member_of s b)
+    member_set_of (λ b. not (eqb b a) && member_of s b) b ∙ and_swap (is_id b) (not (eqb b a)) (member_of s b)
     ∙ ap (λ (x : Bool). not (eqb b a) && x) (sym (member_is s b))
 
 -- ---- one digit put into a word
@@ -173,11 +173,11 @@ put_formed {s} i v h l = record {
 }
 
 -- v is word i of s, but that digit j is x: then the set with v there is s, but that id i * 64 + j + 1 is a member as x says
-put-member : (s : IdSet) (i j v : ℕ) (x : Bool) → Formed s → i < 4 → j < 64
+put_member : (s : IdSet) (i j v : ℕ) (x : Bool) → Formed s → i < 4 → j < 64
     → ((k : ℕ) → k < 64 → digit v k ≡ cond (eqb k j) x (digit (get_or s.words i 0) k))
     → (i' j' : ℕ) → i' < 4 → j' < 64
     → digit (get_or (set s.words i v) i' 0) j' ≡ cond (eqb (suc (i' * 64 + j')) (suc (i * 64 + j))) x (digit (get_or s.words i' 0) j')
-put-member s i j v x h hi hj e i' j' hi' hj' = go (ℕ_discrete i' i)
+put_member s i j v x h hi hj e i' j' hi' hj' = go (ℕ_discrete i' i)
   where
     b : ℕ
     b = suc (i' * 64 + j')
@@ -213,9 +213,9 @@ put_eq s a v x h lo hi hv e = set_of_eq (λ b. cond (eqb b a) x (member_of s b))
         let hj' : j' < 64 = omega arith in
         let qb : suc (i' * 64 + j') ≡ b = omega arith in
         let qa : suc ((a - 1) / 64 * 64 + (a - 1) % 64) ≡ a = omega arith in
-        ap (λ (n : ℕ). member_of (put s i v) n) (sym qb) ∙ member-at (put s i v) i' j' hi' hj'
-        ∙ put-member s i ((a - 1) % 64) v x h (omega arith) (omega arith) e i' j' hi' hj'
-        ∙ ap (λ (d : Bool). cond (eqb (suc (i' * 64 + j')) (suc ((a - 1) / 64 * 64 + (a - 1) % 64))) x d) (sym (member-at s i' j' hi' hj'))
+        ap (λ (n : ℕ). member_of (put s i v) n) (sym qb) ∙ member_at (put s i v) i' j' hi' hj'
+        ∙ put_member s i ((a - 1) % 64) v x h (omega arith) (omega arith) e i' j' hi' hj'
+        ∙ ap (λ (d : Bool). cond (eqb (suc (i' * 64 + j')) (suc ((a - 1) / 64 * 64 + (a - 1) % 64))) x d) (sym (member_at s i' j' hi' hj'))
         ∙ ap₂ (λ (n m : ℕ). cond (eqb n m) x (member_of s n)) qb qa
 
 -- an id that is none changes nothing
@@ -232,7 +232,7 @@ without_none s a h f = set_of_eq (λ b. not (eqb b a) && member_of s b) h (λ b 
 -- ---- what is no id
 
 pub no_member : (s : IdSet) (a : ℕ) → (is_id a ≡ true → ⊥) → member_of s a ≡ false
-no_member s a f = is_false (member_of s a) (λ e. f (member-id s a e))
+no_member s a f = is_false (member_of s a) (λ e. f (member_id s a e))
 
 pub too_low : {a : ℕ} → a < 1 → is_id a ≡ true → ⊥
 too_low {a} h e = omega (arith, id_low a e)

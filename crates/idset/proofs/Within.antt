@@ -13,8 +13,8 @@ use Rattle.basics.proofs.Truth.{and_left, and_right, or_cases, reorder, both, by
 use Rattle.basics.proofs.All.{all_at, all_of, all_cong, all_split}
 use Rattle.idset.specs.declared.IdSet.{IdSet}
 use Rattle.idset.specs.Members.{digit, is_id, member_of, no_ids, with_of, without_of, within_of, larger_at, larger_of}
-use Rattle.idset.proofs.Digits.{digits_ext, digit_shr, digit_none, digit-short}
-use Rattle.idset.proofs.Members.{Formed, formed_words, id_low, id_high, member-id, member-at, member_none, member_with, member_without}
+use Rattle.idset.proofs.Digits.{digits_ext, digit_shr, digit_none, digit_short}
+use Rattle.idset.proofs.Members.{Formed, formed_words, id_low, id_high, member_id, member_at, member_none, member_with, member_without}
 use Rattle.idset.proofs.Size.{pred_id}
 
 -- ---- every member is at most a
@@ -22,8 +22,8 @@ use Rattle.idset.proofs.Size.{pred_id}
 pub within_true : (s : IdSet) (a : ℕ) → within_of s a ≡ true → (b : ℕ) → member_of s b ≡ true → b ≤ a
 unfolding within_of
 within_true s a e b m =
-    let lo = id_low b (member-id s b m) in
-    let hi = id_high b (member-id s b m) in
+    let lo = id_low b (member_id s b m) in
+    let hi = id_high b (member_id s b m) in
     let q = pred_id lo in
     let here = all_at 256 (λ k. not (member_of s (suc k)) || leb (suc k) a) e (b - 1) (omega arith) in
     leb-true b a (ap (λ (n : ℕ). leb n a) (sym q) ∙ ap (λ (t : Bool). not t || leb (suc (b - 1)) a) (sym (ap (member_of s) q ∙ m)) ∙ here)
@@ -81,7 +81,7 @@ module _ (s : IdSet) (i a : ℕ) (h : Formed s) (hi : i < 4) where
   passes k l f = go (member_of s (suc (i * 64 + k))) refl
     where
       go : (t : Bool) → member_of s (suc (i * 64 + k)) ≡ t → (not t || leb (suc (i * 64 + k)) a) ≡ true
-      go true e = le-leb _ a (f (sym (member-at s i k hi l) ∙ e))
+      go true e = le-leb _ a (f (sym (member_at s i k hi l) ∙ e))
       go false e = refl
 
   clear_digits : ((k : ℕ) → k < 64 → asked k ≡ true) → (j : ℕ) → j < 64 → digit (word / 2 ^ (a - i * 64)) j ≡ false
@@ -89,8 +89,8 @@ module _ (s : IdSet) (i a : ℕ) (h : Formed s) (hi : i < 4) where
   clear_digits f j l = is_false _ (λ e.
       let n = a - i * 64 in
       let d : digit word (n + j) ≡ true = sym (digit_shr word n j) ∙ e in
-      let short : n + j < 64 = digit-short 64 (n + j) (h.fit i) d in
-      let m : member_of s (suc (i * 64 + (n + j))) ≡ true = member-at s i (n + j) hi short ∙ d in
+      let short : n + j < 64 = digit_short 64 (n + j) (h.fit i) d in
+      let m : member_of s (suc (i * 64 + (n + j))) ≡ true = member_at s i (n + j) hi short ∙ d in
       let top : suc (i * 64 + (n + j)) ≤ a =
       leb-true _ a (ap (λ (t : Bool). not t || leb (suc (i * 64 + (n + j))) a) (sym m) ∙ f (n + j) short) in
       absurd (omega arith))
@@ -100,7 +100,7 @@ module _ (s : IdSet) (i a : ℕ) (h : Formed s) (hi : i < 4) where
   word_within =
       both (ltb word (2 ^ (a - i * 64))) (all_below 64 asked)
       (λ e. all_of 64 asked (λ k l. passes k l (λ d. by_order (suc (i * 64 + k)) a (λ q. q) (λ q.
-      absurd (omega (arith, digit-short (a - i * 64) k (ltb-true word _ e) d))))))
+      absurd (omega (arith, digit_short (a - i * 64) k (ltb-true word _ e) d))))))
       (λ e.
       let none : word / 2 ^ (a - i * 64) ≡ 0 =
       digits_ext 64 (word / 2 ^ (a - i * 64)) 0 (lt_of_le_fit) (lit< tt) (λ j l. clear_digits (all_at 64 asked e) j l ∙ sym (digit_none j)) in

@@ -13,8 +13,8 @@ use Rattle.schedule.specs.declared.Read.{Read}
 use Rattle.schedule.specs.declared.Read.TheVariants.{BadLine}
 use Rattle.player.specs.Transcript.{judgement}
 
-pub number-room : (n at m : ℕ) → at ≤ 100 → 8192 ≤ m → at + length (decimal n) ≤ m
-number-room n at m a b = omega (arith, decimal_fits n)
+pub number_room : (n at m : ℕ) → at ≤ 100 → 8192 ≤ m → at + length (decimal n) ≤ m
+number_room n at m a b = omega (arith, decimal_fits n)
 
 pub line_room : (n from to m : ℕ) → from ≡ 0 + length (bytes "bad line ") → to ≡ from + length (decimal n) → 8192 ≤ m → to + length (bytes "\n") ≤ m
 line_room n from to m a b h = omega (arith, a, b, decimal_fits n)

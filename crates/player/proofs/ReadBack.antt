@@ -11,7 +11,7 @@ use Rattle.basics.specs.Pick.{when}
 use Rattle.grammar.specs.declared.numbers.Number.TheVariants.{Value}
 use Rattle.grammar.specs.Words.{is_digit, digits, value, unpadded, number_of}
 use Rattle.printed.specs.Printed.{decimal}
-use Rattle.printed.proofs.Laws.{decimal-one, decimal_more}
+use Rattle.printed.proofs.Laws.{decimal_one, decimal_more}
 
 both : (s t u : Bool) → (s && t) ≡ true → (t ≡ true → u ≡ true) → (s && u) ≡ true
 both true t u p f = f p
@@ -22,10 +22,10 @@ unfolding digits
 digits_append [] b p q = q
 digits_append (x ∷ a) b p q = both (is_digit x) (digits a) (digits (a ++ b)) p (λ r. digits_append a b r q)
 
-value-append : (v : ℕ) (a b : List ℕ) → value v (a ++ b) ≡ value (value v a) b
+value_append : (v : ℕ) (a b : List ℕ) → value v (a ++ b) ≡ value (value v a) b
 unfolding value
-value-append v [] b = refl
-value-append v (x ∷ a) b = value-append (v * 10 + (x - 48)) a b
+value_append v [] b = refl
+value_append v (x ∷ a) b = value_append (v * 10 + (x - 48)) a b
 
 a_digit : (d : ℕ) → d < 10 → digits ((48 + d) ∷ []) ≡ true
 unfolding digits
@@ -50,7 +50,7 @@ record Reads (n : ℕ) (w : List ℕ) : Type 0 where
 
 one_reads : (n : ℕ) → n < 10 → Reads n (decimal n)
 unfolding unpadded
-one_reads n h = rw (decimal-one n h) record {
+one_reads n h = rw (decimal_one n h) record {
   some = omega arith;
   lead = λ l e. omega arith;
   bare = refl;
@@ -68,7 +68,7 @@ more_reads n b h r =
       lead = λ _ e. f (sym (get_or-append w d 0 0 r.some) ∙ e);
       bare = a_longer w (48 + n % 10) r.some f;
       all = digits_append w d r.all (a_digit (n % 10) (omega arith));
-      is = value-append 0 w d ∙ (a_value (value 0 w) (n % 10) ∙ omega (arith, r.is));
+      is = value_append 0 w d ∙ (a_value (value 0 w) (n % 10) ∙ omega (arith, r.is));
     }
 
 reads : (k n : ℕ) → n < k → n < 2 ^ 64 → Reads n (decimal n)

@@ -67,9 +67,9 @@ none_plays : (s : List ℕ) (k : ℕ) (p : Pool) → Plays s [] k p
 unfolding turns_from printed_from unrolled seen after
 none_plays s k p = record { prints = refl; leaves = refl }
 
-call-plays : (s : List ℕ) (at : ℕ) (places : List ℕ) (c : Call) (k : ℕ) (p : Pool) → length s ≤ 16384 → at ≤ length s → deed_at s at ≡ calls c → Plays s places (k + 1) (call c p).pool → Plays s (at ∷ places) k p
+call_plays : (s : List ℕ) (at : ℕ) (places : List ℕ) (c : Call) (k : ℕ) (p : Pool) → length s ≤ 16384 → at ≤ length s → deed_at s at ≡ calls c → Plays s places (k + 1) (call c p).pool → Plays s (at ∷ places) k p
 unfolding printed_from seen after
-call-plays s at places c k p short near e h =
+call_plays s at places c k p short near e h =
     let t = turns_on s at k places p (turn_of (calls c) k p) (turn_is s at k p (calls c) short near e) in
     let u = unrolled_on s at places (calls c) e in
     record {
@@ -82,7 +82,7 @@ unfolding CallsAt
 calls_play s [] short h k p = none_plays s k p
 calls_play s (at ∷ places) short h k p =
     let d = does_at s at are.Call h.1 in
-    call-plays s at places d.0 k p short h.0 d.1 (calls_play s places short h.2 (k + 1) (call d.0 p).pool)
+    call_plays s at places d.0 k p short h.0 d.1 (calls_play s places short h.2 (k + 1) (call d.0 p).pool)
 
 -- ---- the whole text, from any record
 

@@ -55,13 +55,13 @@ module _ (p : Pool) where
         ∙ (rw one_more at h))
 
     -- they are not
-    pub rest-fault : (slots + sets ≡ bool_byte (eqb (state_of p id) 2) → ⊥) → fault id (slots + sets) ≡ s
+    pub rest_fault : (slots + sets ≡ bool_byte (eqb (state_of p id) 2) → ⊥) → fault id (slots + sets) ≡ s
     unfolding audit_from
-    rest-fault n =
+    rest_fault n =
         when_no (eqb (places_of p id) (wanted_of p id)) (fault id (slots + sets)) _ _
         (ne_eqb (places_of p id) (wanted_of p id) (λ e. n (sym places ∙ e ∙ sym (byte_one (eqb (state_of p id) 2)))))
         (ap (fault id) (sym places))
         ∙ (rw one_more at h)
 
 -- for what the search answers: `search (needs, audits)`
-pub ruleset audits = (rest_none, rest-fault)
+pub ruleset audits = (rest_none, rest_fault)

@@ -8,7 +8,7 @@ use lib.ListN.{length}
 use native.Mathlib.Omega.{arith}
 use lib.Dec.{eqb, leb, ltb}
 use borrow.Author.Tests.{ltb-false, leb-false, eqb-true}
-use Rattle.basics.proofs.Picks.{when-back, unless-back}
+use Rattle.basics.proofs.Picks.{when_back, unless_back}
 use Rattle.pool.specs.declared.Pool.{Pool}
 use Rattle.pool.specs.declared.WorkerNo.{WorkerNo}
 use Rattle.pool.specs.declared.GuardNo.{GuardNo}
@@ -35,7 +35,7 @@ sound_passes p h = fine_is (sound_check p) h
 
 -- and then it has at most 256 buffers
 pub buffers_if : (s : Verdict) (p : Pool) → verdict s ≡ sound_check p → verdict s ≡ fine → p.b ≤ 256
-buffers_if s p e t = (sizes_of p (sound_of_lem p (sym e ∙ t))).b-most
+buffers_if s p e t = (sizes_of p (sound_of_lem p (sym e ∙ t))).b_most
 
 -- ---- the worker is one of the pool's
 
@@ -49,8 +49,8 @@ pub named : (p : Pool) (w : WorkerNo) → worker_check p w ≡ fine → Named p 
 unfolding worker_check
 named p w h =
     let a = first_both (sound_check p) _ h in
-    let b = when-back (ltb w.0 1) fine (refuse 3 0) _ never a.1 in
-    let c = when-back (ltb p.w w.0) fine (refuse 3 0) _ never b.1 in
+    let b = when_back (ltb w.0 1) fine (refuse 3 0) _ never a.1 in
+    let c = when_back (ltb p.w w.0) fine (refuse 3 0) _ never b.1 in
     let sound = sound_of_lem p a.0 in
     record { sound = sound; sizes = sizes_of p sound; some = ltb-false _ _ b.0; most = ltb-false _ _ c.0 }
 
@@ -67,7 +67,7 @@ pub begun : (p : Pool) (w : WorkerNo) → begin_check p w ≡ fine → Begun p w
 unfolding begin_check
 begun p w h =
     let a = first_both (worker_check p w) _ h in
-    let b = unless-back (eqb (worker_of p w).label 0) fine (refuse 4 0) fine never a.1 in
+    let b = unless_back (eqb (worker_of p w).label 0) fine (refuse 4 0) fine never a.1 in
     record { worker = named p w a.0; idle = eqb-true _ _ b.0 }
 
 pub begun_by : (v : Verdict) (p : Pool) (w : WorkerNo) → verdict v ≡ begin_check p w → v ≡ Fine → Begun p w
@@ -82,8 +82,8 @@ pub record Employed (p : Pool) (w : WorkerNo) (g : GuardNo) : Type 0 where
 pub employed : (p : Pool) (w : WorkerNo) (g : GuardNo) → guard_check p w g ≡ fine → Employed p w g
 unfolding guard_check
 employed p w g h =
-    let a = when-back (leb p.g g.0) fine (refuse 6 0) _ never h in
-    let b = unless-back (eqb (employer_at p g.0) w.0) fine (refuse 7 0) fine never a.1 in
+    let a = when_back (leb p.g g.0) fine (refuse 6 0) _ never h in
+    let b = unless_back (eqb (employer_at p g.0) w.0) fine (refuse 7 0) fine never a.1 in
     record { guard_below = leb-false _ _ a.0; employed = eqb-true _ _ b.0 }
 
 -- ---- the id names a buffer
@@ -95,8 +95,8 @@ pub record Buffer (p : Pool) (id : ℕ) : Type 0 where
 pub buffer : (p : Pool) (id place : ℕ) → id_check p id place ≡ fine → Buffer p id
 unfolding id_check
 buffer p id place h =
-    let a = when-back (ltb id 1) fine (refuse 9 place) _ never h in
-    let b = when-back (ltb p.b id) fine (refuse 9 place) _ never a.1 in
+    let a = when_back (ltb id 1) fine (refuse 9 place) _ never h in
+    let b = when_back (ltb p.b id) fine (refuse 9 place) _ never a.1 in
     record { some = ltb-false _ _ a.0; most = ltb-false _ _ b.0 }
 
 -- ---- what the calls' own checks leave
@@ -111,7 +111,7 @@ unfolding fire_check
 fires p w g h =
     let a = first_both (begin_check p w) _ h in
     let b = first_both (guard_check p w g) _ a.1 in
-    let c = unless-back (eqb (posted_at p g.0) 0) fine (refuse 8 0) fine never b.1 in
+    let c = unless_back (eqb (posted_at p g.0) 0) fine (refuse 8 0) fine never b.1 in
     record { begun = begun p w a.0; guard = employed p w g b.0; unposted = eqb-true _ _ c.0 }
 
 pub record Posts (p : Pool) (w : WorkerNo) (g : GuardNo) (b : BufferId) : Type 0 where
@@ -124,7 +124,7 @@ unfolding post_check
 posts p w g b h =
     let a = first_both (begin_check p w) _ h in
     let c = first_both (guard_check p w g) _ a.1 in
-    let d = when-back (ltb p.b b.0) fine (refuse 9 0) fine never c.1 in
+    let d = when_back (ltb p.b b.0) fine (refuse 9 0) fine never c.1 in
     record { begun = begun p w a.0; guard = employed p w g c.0; most = ltb-false _ _ d.0 }
 
 pub record Takes (p : Pool) (b : BufferId) : Type 0 where
@@ -138,7 +138,7 @@ unfolding take_check
 takes p b h =
     let a = first_both (sound_check p) _ h in
     let c = first_both (id_check p b.0 0) _ a.1 in
-    let d = unless-back (eqb (state_of p b.0) 0) fine (refuse 11 0) fine never c.1 in
+    let d = unless_back (eqb (state_of p b.0) 0) fine (refuse 11 0) fine never c.1 in
     let sound = sound_of_lem p a.0 in
     record { sound = sound; sizes = sizes_of p sound; buffer = buffer p b.0 0 c.0; free = eqb-true _ _ d.0 }
 
@@ -177,41 +177,41 @@ module _ (v : Verdict) (p : Pool) (q : v ≡ Fine) where
   begin_at w e = index (begun p w (fine_by v e q)).worker
 
   pub begin_guards : (w : WorkerNo) → verdict v ≡ begin_check p w → p.g ≤ 32
-  begin_guards w e = (begun p w (fine_by v e q)).worker.sizes.g-most
+  begin_guards w e = (begun p w (fine_by v e q)).worker.sizes.g_most
 
   pub begin_buffers : (w : WorkerNo) → verdict v ≡ begin_check p w → p.b ≤ 256
-  begin_buffers w e = (begun p w (fine_by v e q)).worker.sizes.b-most
+  begin_buffers w e = (begun p w (fine_by v e q)).worker.sizes.b_most
 
-  pub fire-some : (w : WorkerNo) (g : GuardNo) → verdict v ≡ fire_check p w g → 1 ≤ w.0
-  fire-some w g e = (fires p w g (fine_by v e q)).begun.worker.some
+  pub fire_some : (w : WorkerNo) (g : GuardNo) → verdict v ≡ fire_check p w g → 1 ≤ w.0
+  fire_some w g e = (fires p w g (fine_by v e q)).begun.worker.some
 
-  pub fire-at : (w : WorkerNo) (g : GuardNo) → verdict v ≡ fire_check p w g → w.0 - 1 < 8
-  fire-at w g e = index (fires p w g (fine_by v e q)).begun.worker
+  pub fire_at : (w : WorkerNo) (g : GuardNo) → verdict v ≡ fire_check p w g → w.0 - 1 < 8
+  fire_at w g e = index (fires p w g (fine_by v e q)).begun.worker
 
   pub fire_guard : (w : WorkerNo) (g : GuardNo) → verdict v ≡ fire_check p w g → g.0 < 32
   fire_guard w g e = let f = fires p w g (fine_by v e q) in slot_index f.begun.worker f.guard
 
-  pub post-some : (w : WorkerNo) (g : GuardNo) (b : BufferId) → verdict v ≡ post_check p w g b → 1 ≤ w.0
-  post-some w g b e = (posts p w g b (fine_by v e q)).begun.worker.some
+  pub post_some : (w : WorkerNo) (g : GuardNo) (b : BufferId) → verdict v ≡ post_check p w g b → 1 ≤ w.0
+  post_some w g b e = (posts p w g b (fine_by v e q)).begun.worker.some
 
-  pub post-at : (w : WorkerNo) (g : GuardNo) (b : BufferId) → verdict v ≡ post_check p w g b → w.0 - 1 < 8
-  post-at w g b e = index (posts p w g b (fine_by v e q)).begun.worker
+  pub post_at : (w : WorkerNo) (g : GuardNo) (b : BufferId) → verdict v ≡ post_check p w g b → w.0 - 1 < 8
+  post_at w g b e = index (posts p w g b (fine_by v e q)).begun.worker
 
-  pub take-some : (b : BufferId) → verdict v ≡ take_check p b → 1 ≤ b.0
-  take-some b e = (takes p b (fine_by v e q)).buffer.some
+  pub take_some : (b : BufferId) → verdict v ≡ take_check p b → 1 ≤ b.0
+  take_some b e = (takes p b (fine_by v e q)).buffer.some
 
   pub take_at : (b : BufferId) → verdict v ≡ take_check p b → b.0 - 1 < 256
   take_at b e = let t = takes p b (fine_by v e q) in state_index t.sizes t.buffer
 
-  pub ask-some : (w : WorkerNo) (b : BufferId) → verdict v ≡ ask_check p w b → 1 ≤ b.0
-  ask-some w b e = (asks p w b (fine_by v e q)).buffer.some
+  pub ask_some : (w : WorkerNo) (b : BufferId) → verdict v ≡ ask_check p w b → 1 ≤ b.0
+  ask_some w b e = (asks p w b (fine_by v e q)).buffer.some
 
-  pub ask-at : (w : WorkerNo) (b : BufferId) → verdict v ≡ ask_check p w b → b.0 - 1 < 256
-  ask-at w b e = let a = asks p w b (fine_by v e q) in state_index a.begun.worker.sizes a.buffer
+  pub ask_at : (w : WorkerNo) (b : BufferId) → verdict v ≡ ask_check p w b → b.0 - 1 < 256
+  ask_at w b e = let a = asks p w b (fine_by v e q) in state_index a.begun.worker.sizes a.buffer
 
 -- of two checks, one after the other
 pub guard_at : (v u : Verdict) (p : Pool) (w : WorkerNo) (g : GuardNo) → verdict v ≡ begin_check p w → v ≡ Fine → verdict u ≡ guard_check p w g
     → u ≡ Fine → g.0 < 32
 guard_at v u p w g e q f r = slot_index (begun p w (fine_by v e q)).worker (employed p w g (fine_by u f r))
 
-pub ruleset indices = (guard_at, begin_some, begin_at, begin_guards, begin_buffers, fire-some, fire-at, fire_guard, post-some, post-at, ask-some, ask-at)
+pub ruleset indices = (guard_at, begin_some, begin_at, begin_guards, begin_buffers, fire_some, fire_at, fire_guard, post_some, post_at, ask_some, ask_at)

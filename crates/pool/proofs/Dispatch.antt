@@ -34,7 +34,7 @@ use Rattle.pool.specs.ForProofs.Ready.{Stands}
 use Rattle.pool.specs.ForProofs.Reach.{reach_at, stored_at, putting, own_step, Takes, TakesLine}
 use Rattle.pool.proofs.Told.{fine_by, refuse_by}
 use Rattle.pool.proofs.Scans.{entry}
-use Rattle.pool.proofs.Standing.{before32, stands, in_use, place-most, ready, last-label}
+use Rattle.pool.proofs.Standing.{before32, stands, in_use, place_most, ready, last_label}
 use Rattle.pool.proofs.Parts.{sizes_of}
 use Rattle.pool.proofs.Checked.{named_by}
 
@@ -138,9 +138,9 @@ module _ (s : Reach) (m : Moved) where
         go (no n) = other n
 
     -- at none of the labels that have a line of their own, and not at 32 either
-    pub own-rest : ((s.me.label ≡ 4 → ⊥) → (s.me.label ≡ 12 → ⊥) → (s.me.label ≡ 13 → ⊥) → (s.me.label ≡ 15 → ⊥) → (s.me.label ≡ 22 → ⊥)
+    pub own_rest : ((s.me.label ≡ 4 → ⊥) → (s.me.label ≡ 12 → ⊥) → (s.me.label ≡ 13 → ⊥) → (s.me.label ≡ 15 → ⊥) → (s.me.label ≡ 22 → ⊥)
         → (s.me.label ≡ 25 → ⊥) → (s.me.label ≡ 31 → ⊥) → among before32 s.me.label ≡ false) → TakesLine s m
-    own-rest none =
+    own_rest none =
         asked 4 own4 (λ n4.
         asked 12 own12 (λ n12.
         asked 13 own13 (λ n13.
@@ -148,7 +148,7 @@ module _ (s : Reach) (m : Moved) where
         asked 22 own22 (λ n22.
         asked 25 own25 (λ n25.
         asked 31 own31 (λ n31 k i p q st here not_last room.
-        absurd (not_last (last-label st (rw q at (none n4 n12 n13 n15 n22 n25 n31)))))))))))
+        absurd (not_last (last_label st (rw q at (none n4 n12 n13 n15 n22 n25 n31)))))))))))
 
 -- ---- label 32
 
@@ -175,9 +175,9 @@ module _ (k : ℕ) (p : Pool) (room : ℕ) where
       unfolding hand_check unless when
       hands l = rw (← all_leaving_lem, ← e, not-false t h, ← f, le-ltb room n l)
 
-  pub handed-back : (n : ℕ) (st : List ℕ) → n ≡ size_of (set_at p k) → st ≡ table 256 (λ j. when (member_of (set_at p k) (suc j)) 0 (get_or p.states j 0))
+  pub handed_back_lem : (n : ℕ) (st : List ℕ) → n ≡ size_of (set_at p k) → st ≡ table 256 (λ j. when (member_of (set_at p k) (suc j)) 0 (get_or p.states j 0))
       → ends k (back n) (with_states st p) ≡ line32 k p
-  handed-back n st e h =
+  handed_back_lem n st e h =
       rw (
         e,
         h,
@@ -217,7 +217,7 @@ module _ (v : Verdict) (p : Pool) (w : WorkerNo) (e : verdict v ≡ worker_check
       here_stands = stands p w may_stand
 
       pub i_least : (worker_of p w).i < largest
-      i_least = omega (arith, place-most p.g (worker_of p w) (in_use here_stands).place, (sizes_of p here_stands.sound).g-most)
+      i_least = omega (arith, place_most p.g (worker_of p w) (in_use here_stands).place, (sizes_of p here_stands.sound).g_most)
 
       -- at any label but 32 the line is that of what is in reach, and writes no list
       pub line_goes : (t : Told) → ((worker_of p w).label ≡ 32 → ⊥) → t ≡ Full (worker_of p w).label (w.0 - 1) p (length out)

@@ -101,22 +101,22 @@ pub fine_is : (c : Check) → is_fine c ≡ true → c ≡ fine
 fine_is fine h = refl
 fine_is (refuse n place) h = absurd (false≢true h)
 
-pub fine-first : (a b : Check) → is_fine (first a b) ≡ (is_fine a && is_fine b)
+pub fine_first : (a b : Check) → is_fine (first a b) ≡ (is_fine a && is_fine b)
 unfolding first
-fine-first fine b = refl
-fine-first (refuse n place) b = refl
+fine_first fine b = refl
+fine_first (refuse n place) b = refl
 
-fine-below : (n : ℕ) (f : ℕ → Check) → is_fine (first_below n f) ≡ all_below n (λ i. is_fine (f i))
+fine_below : (n : ℕ) (f : ℕ → Check) → is_fine (first_below n f) ≡ all_below n (λ i. is_fine (f i))
 unfolding first_below all_below
-fine-below zero f = refl
-fine-below (suc n) f = fine-first (first_below n f) (f n) ∙ ap (λ (t : Bool). t && is_fine (f n)) (fine-below n f)
+fine_below zero f = refl
+fine_below (suc n) f = fine_first (first_below n f) (f n) ∙ ap (λ (t : Bool). t && is_fine (f n)) (fine_below n f)
 
-pub fine-keeps : (rule place : ℕ) (test : Bool) → is_fine (keeps rule place test) ≡ test
+pub fine_keeps : (rule place : ℕ) (test : Bool) → is_fine (keeps rule place test) ≡ test
 unfolding unless
-fine-keeps rule place true = refl
-fine-keeps rule place false = refl
+fine_keeps rule place true = refl
+fine_keeps rule place false = refl
 
 pub fine_each : (n rule : ℕ) (place : ℕ → ℕ) (test : ℕ → Bool) → is_fine (first_below n (λ k. keeps rule (place k) (test k))) ≡ all_below n test
 fine_each n rule place test =
-    fine-below n (λ k. keeps rule (place k) (test k))
-    ∙ all_cong n (λ k. is_fine (keeps rule (place k) (test k))) test (λ k l. fine-keeps rule (place k) (test k))
+    fine_below n (λ k. keeps rule (place k) (test k))
+    ∙ all_cong n (λ k. is_fine (keeps rule (place k) (test k))) test (λ k l. fine_keeps rule (place k) (test k))

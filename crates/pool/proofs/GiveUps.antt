@@ -14,7 +14,7 @@ use Rattle.basics.specs.Pick.{when, unless}
 use Rattle.basics.specs.Below.{any_below, table}
 use Rattle.basics.specs.Among.{among_first, among}
 use Rattle.basics.proofs.Truth.{and_left, and_right, is_false}
-use Rattle.basics.proofs.Table.{table_at, table_is, table-length, table_cong}
+use Rattle.basics.proofs.Table.{table_at, table_is, table_length, table_cong}
 use Rattle.idset.specs.declared.IdSet.{IdSet}
 use Rattle.idset.specs.Members.{is_id, member_of, set_of}
 use Rattle.idset.proofs.Members.{id_true}
@@ -26,7 +26,7 @@ use Rattle.pool.specs.Record.{state_of, worker_at, with_states, with_worker, wit
 use Rattle.pool.specs.Checks.{id_check, entry_check, list_check}
 use Rattle.pool.specs.Begins.{giving}
 use Rattle.pool.specs.ForProofs.Buffers.{buffers_alone, entry_by}
-use Rattle.pool.proofs.Told.{id-first}
+use Rattle.pool.proofs.Told.{id_first}
 
 -- ---- the walk that judges
 
@@ -35,7 +35,7 @@ pub entry_judged : (count : ℕ) (states ids : List ℕ) (k : ℕ) {s : IdSet} {
     → again ≡ member_of s (get_or ids k 0) → c ≡ entry_by count states (get_or ids k 0) again k → c ≡ entry_check (buffers_alone count states) ids k
 unfolding entry_check when
 entry_judged count states ids k {s} {again} {c} few e h q =
-    q ∙ under (ltb id 1) refl (ltb count id) refl ∙ sym (id-first (buffers_alone count states) id k (rest (among_first ids k id)))
+    q ∙ under (ltb id 1) refl (ltb count id) refl ∙ sym (id_first (buffers_alone count states) id k (rest (among_first ids k id)))
   where
     id : ℕ
     id = get_or ids k 0
@@ -53,9 +53,9 @@ entry_judged count states ids k {s} {again} {c} few e h q =
         ap rest (h ∙ met_before ids k e id (id_true id lo (omega arith)))
 
 -- nothing else of the record is read
-pub list-judged : (p : Pool) (ids : List ℕ) (n : ℕ) → list_check (buffers_alone p.b p.states) ids n ≡ list_check p ids n
+pub list_judged : (p : Pool) (ids : List ℕ) (n : ℕ) → list_check (buffers_alone p.b p.states) ids n ≡ list_check p ids n
 unfolding entry_check id_check
-list-judged p ids n = refl
+list_judged p ids n = refl
 
 -- ---- one buffer leaves
 
@@ -68,9 +68,9 @@ left_none st id f = table_is (length st) _ st 0 refl (λ k l.
     rw (is_false (is_id (suc k) && eqb id (suc k)) (λ t.
     f (ap is_id (eqb-true id (suc k) (and_right (is_id (suc k)) (eqb id (suc k)) t)) ∙ and_left (is_id (suc k)) (eqb id (suc k)) t))))
 
-pub left-some : (st : List ℕ) (id : ℕ) → 1 ≤ id → id ≤ 256 → set st (id - 1) 2 ≡ left_one st id
+pub left_some : (st : List ℕ) (id : ℕ) → 1 ≤ id → id ≤ 256 → set st (id - 1) 2 ≡ left_one st id
 unfolding when
-left-some st id lo hi = table_is (length st) _ (set st (id - 1) 2) 0 (length-set st (id - 1) 2) (λ k l. go k l (ℕ_discrete id (suc k)))
+left_some st id lo hi = table_is (length st) _ (set st (id - 1) 2) 0 (length-set st (id - 1) 2) (λ k l. go k l (ℕ_discrete id (suc k)))
   where
     go : (k : ℕ) → k < length st → Dec (id ≡ suc k) → get_or (set st (id - 1) 2) k 0 ≡ when (is_id (suc k) && eqb id (suc k)) 2 (get_or st k 0)
     go k l (yes q) =
@@ -100,7 +100,7 @@ pub left_first_again : (st ids : List ℕ) (j : ℕ) {after next : List ℕ} →
 unfolding any_below
 left_first_again st ids j {after} {next} e h =
     let now : ℕ → ℕ = λ k. when (is_id (suc k) && among_first ids j (suc k)) 2 (get_or st k 0) in
-    let long : length after ≡ length st = ap length e ∙ table-length (length st) now in
+    let long : length after ≡ length st = ap length e ∙ table_length (length st) now in
     h ∙ ap (λ (n : ℕ). table n (λ k. when (is_id (suc k) && eqb (get_or ids j 0) (suc k)) 2 (get_or after k 0))) long
     ∙ table_cong (length st) (λ k. when (is_id (suc k) && eqb (get_or ids j 0) (suc k)) 2 (get_or after k 0)) (λ k. when (is_id (suc k) && among_first ids (j + 1) (suc k)) 2 (get_or st k 0)) (λ k l.
     rw (e, add-one, table_at (length st) now k 0 l)

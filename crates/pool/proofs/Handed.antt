@@ -14,7 +14,7 @@ use Rattle.basics.specs.Pick.{when}
 use Rattle.basics.specs.Below.{all_below, table}
 use Rattle.basics.proofs.Truth.{both, by_order}
 use Rattle.basics.proofs.All.{all_of, all_split}
-use Rattle.basics.proofs.Table.{table_at, table_is, table-length, table_cong}
+use Rattle.basics.proofs.Table.{table_at, table_is, table_length, table_cong}
 use Rattle.idset.specs.declared.IdSet.{IdSet}
 use Rattle.idset.specs.Members.{member_of, size_of, ids_of, above, members_of}
 use Rattle.idset.proofs.Members.{no_member, too_high}
@@ -71,7 +71,7 @@ module _ (st : List ℕ) {after : List ℕ} where
   freed_met {s} {k} met e = table_is (length st) _ (set after k 0) 0 (length-set after k 0 ∙ long) (λ j l. go j l (ℕ_discrete j k))
     where
       long : length after ≡ length st
-      long = ap length e ∙ table-length (length st) _
+      long = ap length e ∙ table_length (length st) _
 
       go : (j : ℕ) → j < length st → Dec (j ≡ k) → get_or (set after k 0) j 0 ≡ when (up_to s (k + 1) (suc j)) 0 (get_or st j 0)
       go j l (yes q) =

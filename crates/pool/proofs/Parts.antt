@@ -15,7 +15,7 @@ use Rattle.pool.specs.declared.Pool.{Pool}
 use Rattle.pool.specs.Answers.{first, is_fine}
 use Rattle.pool.specs.Record.{worker_at, set_at}
 use Rattle.pool.specs.Sound.{guards_keep, buffers_keep, workers_keep, counts_sound, counts_check, guards_beyond, buffers_beyond, workers_beyond, beyond_check, employer_in, state_in, is_label, label_in, kinds_check, guard_ids, worker_ids, ids_check, worker_registers, registers_check, sound_check, sound_of}
-use Rattle.pool.proofs.Firsts.{fine-first, fine-keeps, fine_each}
+use Rattle.pool.proofs.Firsts.{fine_first, fine_keeps, fine_each}
 
 -- ---- a sound record passes every test
 
@@ -35,9 +35,9 @@ pub record Parts (p : Pool) : Type 0 where
 of_three : (rule : ℕ) (f g h : ℕ → Bool)
     → is_fine (first (guards_keep rule f) (first (buffers_keep rule g) (workers_keep rule h))) ≡ (all_below 32 f && (all_below 256 g && all_below 8 h))
 of_three rule f g h =
-    fine-first (guards_keep rule f) (first (buffers_keep rule g) (workers_keep rule h))
+    fine_first (guards_keep rule f) (first (buffers_keep rule g) (workers_keep rule h))
     ∙ ap₂ ◌&&◌ (fine_each 32 rule (λ i. i) f)
-    (fine-first (buffers_keep rule g) (workers_keep rule h) ∙ ap₂ ◌&&◌ (fine_each 256 rule suc g) (fine_each 8 rule suc h))
+    (fine_first (buffers_keep rule g) (workers_keep rule h) ∙ ap₂ ◌&&◌ (fine_each 256 rule suc g) (fine_each 8 rule suc h))
 
 in_a_row : (c a b d e f g h i r : Bool)
     → (c && ((a && (b && d)) && ((e && (f && g)) && ((h && i) && r)))) ≡ (c && a && b && d && e && f && g && h && i && r)
@@ -51,15 +51,15 @@ module _ (p : Pool) where
       && all_below 32 (guard_ids p) && all_below 8 (worker_ids p) && all_below 8 (worker_registers p))
   unfolding sound_of sound_check counts_check beyond_check kinds_check ids_check registers_check
   sound_tests =
-      fine-first (counts_check p) (first (beyond_check p) (first (kinds_check p) (first (ids_check p) (registers_check p))))
-      ∙ ap₂ ◌&&◌ (fine-keeps 21 0 (counts_sound p))
-      (fine-first (beyond_check p) (first (kinds_check p) (first (ids_check p) (registers_check p)))
+      fine_first (counts_check p) (first (beyond_check p) (first (kinds_check p) (first (ids_check p) (registers_check p))))
+      ∙ ap₂ ◌&&◌ (fine_keeps 21 0 (counts_sound p))
+      (fine_first (beyond_check p) (first (kinds_check p) (first (ids_check p) (registers_check p)))
       ∙ ap₂ ◌&&◌ (of_three 22 (guards_beyond p) (buffers_beyond p) (workers_beyond p))
-      (fine-first (kinds_check p) (first (ids_check p) (registers_check p))
+      (fine_first (kinds_check p) (first (ids_check p) (registers_check p))
       ∙ ap₂ ◌&&◌ (of_three 23 (employer_in p) (state_in p) (label_in p))
-      (fine-first (ids_check p) (registers_check p)
+      (fine_first (ids_check p) (registers_check p)
       ∙ ap₂ ◌&&◌
-      (fine-first (guards_keep 24 (guard_ids p)) (workers_keep 24 (worker_ids p))
+      (fine_first (guards_keep 24 (guard_ids p)) (workers_keep 24 (worker_ids p))
       ∙ ap₂ ◌&&◌ (fine_each 32 24 (λ i. i) (guard_ids p)) (fine_each 8 24 suc (worker_ids p)))
       (fine_each 8 25 suc (worker_registers p)))))
       ∙ in_a_row (counts_sound p) (all_below 32 (guards_beyond p)) (all_below 256 (buffers_beyond p)) (all_below 8 (workers_beyond p))
@@ -94,13 +94,13 @@ module _ {p : Pool} where
 -- ---- the counts, as plain ranges
 
 pub record Sizes (p : Pool) : Type 0 where
-  pub w-some : 1 ≤ p.w
-  pub w-most : p.w ≤ 8
+  pub w_some : 1 ≤ p.w
+  pub w_most : p.w ≤ 8
   pub g_some : 1 ≤ p.g
-  pub g-most : p.g ≤ 32
-  pub b-some : 1 ≤ p.b
-  pub b-most : p.b ≤ 256
-  pub maxg-below : p.maxg < p.g
+  pub g_most : p.g ≤ 32
+  pub b_some : 1 ≤ p.b
+  pub b_most : p.b ≤ 256
+  pub maxg_below : p.maxg < p.g
 
 pub sizes_of : (p : Pool) → sound_of p ≡ true → Sizes p
 sizes_of p h =

@@ -14,7 +14,7 @@ use Rattle.pool.specs.declared.Refusal.TheVariants.{VersionsUsedUp}
 use Rattle.pool.specs.declared.Reach.{Reach}
 use Rattle.pool.specs.declared.Moved.{Moved}
 use Rattle.pool.specs.declared.Pool.{Pool}
-use Rattle.pool.specs.Answers.{Told, None-found, said, after_check}
+use Rattle.pool.specs.Answers.{Told, none_found, said, after_check}
 use Rattle.pool.specs.Record.{taken_at, worker_at, with_taken}
 use Rattle.pool.specs.Steps.{largest_version, i_of, slot_here, unchanged, collects, puts, goes, ends, line2, line5, line6, line7, line9, line18, line28, version_check}
 use Rattle.pool.specs.ForProofs.Reach.{reach_at, stored_at, storing, putting, Takes}
@@ -73,14 +73,14 @@ any s = Unit {0}
 abbrev goes_free : Reach → Moved
 goes_free s = putting (to 4 s.me) (at_taken true s)
 
-line2-free : (k : ℕ) (p : Pool) → not (taken_at p (i_of p k)) ≡ true → Made goes_free k p ≡ line2 k p
+line2_free : (k : ℕ) (p : Pool) → not (taken_at p (i_of p k)) ≡ true → Made goes_free k p ≡ line2 k p
 unfolding line2 puts unless
-line2-free k p t =
+line2_free k p t =
     let made : Made goes_free k p ≡ goes k 4 (with_taken (i_of p k) true p) = simp set-get_or in
     made ∙ rw (not-true (taken_at p (i_of p k)) t)
 
 pub take2_free : {s : Reach} {m : Moved} → not s.taken ≡ true → m ≡ goes_free s → Takes line2 s m
-take2_free = takes (λ s. not s.taken ≡ true) goes_free line2-free
+take2_free = takes (λ s. not s.taken ≡ true) goes_free line2_free
 
 abbrev Last : Reach → Type 0
 Last s = (not s.taken ≡ false) × (s.me.i + 1 ≡ s.g)
@@ -88,14 +88,14 @@ Last s = (not s.taken ≡ false) × (s.me.i + 1 ≡ s.g)
 abbrev ends_none : Reach → Moved
 ends_none s = storing NoneFound no_worker no_ids s
 
-line2-last : (k : ℕ) (p : Pool) → Last (here k p) → Made ends_none k p ≡ line2 k p
+line2_last : (k : ℕ) (p : Pool) → Last (here k p) → Made ends_none k p ≡ line2 k p
 unfolding line2 ends unless when
-line2-last k p t =
-    let made : Made ends_none k p ≡ ends k None-found p = simp set-get_or in
+line2_last k p t =
+    let made : Made ends_none k p ≡ ends k none_found p = simp set-get_or in
     made ∙ rw (not-false (taken_at p (i_of p k)) t.0, eq-eqb (i_of p k + 1) p.g t.1)
 
 pub take2_last : {s : Reach} {m : Moved} → Last s → m ≡ ends_none s → Takes line2 s m
-take2_last = takes Last ends_none line2-last
+take2_last = takes Last ends_none line2_last
 
 abbrev NotLast : Reach → Type 0
 NotLast s = (not s.taken ≡ false) × (s.me.i + 1 ≡ s.g → ⊥)
@@ -103,34 +103,34 @@ NotLast s = (not s.taken ≡ false) × (s.me.i + 1 ≡ s.g → ⊥)
 abbrev goes_next : Reach → Moved
 goes_next s = putting (with_i (s.me.i + 1) s.me) s
 
-line2-next : (k : ℕ) (p : Pool) → NotLast (here k p) → Made goes_next k p ≡ line2 k p
+line2_next : (k : ℕ) (p : Pool) → NotLast (here k p) → Made goes_next k p ≡ line2 k p
 unfolding line2 puts unless when
-line2-next k p t =
+line2_next k p t =
     let made : Made goes_next k p ≡ puts k (with_i (i_of p k + 1) (worker_at p k)) p = simp set-get_or in
     made ∙ rw (not-false (taken_at p (i_of p k)) t.0, ne_eqb (i_of p k + 1) p.g t.1)
 
 pub take2_next : {s : Reach} {m : Moved} → NotLast s → m ≡ goes_next s → Takes line2 s m
-take2_next = takes NotLast goes_next line2-next
+take2_next = takes NotLast goes_next line2_next
 
 abbrev rises : Reach → Moved
 rises s = putting (to 4 s.me) (at_maxg (when (eqb s.maxg s.me.max) s.me.i s.maxg) s)
 
-line5-made : (k : ℕ) (p : Pool) → Unit {0} → Made rises k p ≡ line5 k p
+line5_made : (k : ℕ) (p : Pool) → Unit {0} → Made rises k p ≡ line5 k p
 unfolding puts
-line5-made k p t = simp set-get_or
+line5_made k p t = simp set-get_or
 
 pub take5 : {s : Reach} {m : Moved} → m ≡ rises s → Takes line5 s m
-take5 = takes any rises line5-made tt
+take5 = takes any rises line5_made tt
 
 abbrev ends_hired : Reach → Moved
 ends_hired s = storing (Hired (record { 0 = s.me.i })) no_worker no_ids (at_employer s.no s)
 
-line6-made : (k : ℕ) (p : Pool) → Unit {0} → Made ends_hired k p ≡ line6 k p
+line6_made : (k : ℕ) (p : Pool) → Unit {0} → Made ends_hired k p ≡ line6 k p
 unfolding ends
-line6-made k p t = simp set-get_or
+line6_made k p t = simp set-get_or
 
 pub take6 : {s : Reach} {m : Moved} → m ≡ ends_hired s → Takes line6 s m
-take6 = takes any ends_hired line6-made tt
+take6 = takes any ends_hired line6_made tt
 
 -- ---- an end of any kind
 
@@ -143,22 +143,22 @@ take_ends a = takes any (storing a no_worker no_ids) (λ k p t. simp set-get_or)
 abbrev goes_fired : Reach → Moved
 goes_fired s = putting (to 8 s.me) (at_taken false s)
 
-line7-made : (k : ℕ) (p : Pool) → Unit {0} → Made goes_fired k p ≡ line7 k p
+line7_made : (k : ℕ) (p : Pool) → Unit {0} → Made goes_fired k p ≡ line7 k p
 unfolding puts
-line7-made k p t = simp set-get_or
+line7_made k p t = simp set-get_or
 
 pub take7 : {s : Reach} {m : Moved} → m ≡ goes_fired s → Takes line7 s m
-take7 = takes any goes_fired line7-made tt
+take7 = takes any goes_fired line7_made tt
 
 abbrev goes_posted : Reach → Moved
 goes_posted s = putting (to 10 s.me) (at_posted s.me.v s)
 
-line9-made : (k : ℕ) (p : Pool) → Unit {0} → Made goes_posted k p ≡ line9 k p
+line9_made : (k : ℕ) (p : Pool) → Unit {0} → Made goes_posted k p ≡ line9 k p
 unfolding puts
-line9-made k p t = simp set-get_or
+line9_made k p t = simp set-get_or
 
 pub take9 : {s : Reach} {m : Moved} → m ≡ goes_posted s → Takes line9 s m
-take9 = takes any goes_posted line9-made tt
+take9 = takes any goes_posted line9_made tt
 
 -- ---- give up: the lines that store to a slot
 
@@ -177,12 +177,12 @@ Line18 k p = after_check (version_check (unchanged k p) k p) p (line18 k p)
 abbrev fails : Reach → Moved
 fails s = putting (to 22 s.me) s
 
-line18-fails : (k : ℕ) (p : Pool) → not (same_in (here k p)) ≡ true → Made fails k p ≡ Line18 k p
+line18_fails : (k : ℕ) (p : Pool) → not (same_in (here k p)) ≡ true → Made fails k p ≡ Line18 k p
 unfolding line18 puts unless when after_check
-line18-fails k p t = simp (not-true (unchanged k p) t, set-get_or)
+line18_fails k p t = simp (not-true (unchanged k p) t, set-get_or)
 
 pub take18_fails : {s : Reach} {m : Moved} → not (same_in s) ≡ true → m ≡ fails s → Takes Line18 s m
-take18_fails = takes (λ s. not (same_in s) ≡ true) fails line18-fails
+take18_fails = takes (λ s. not (same_in s) ≡ true) fails line18_fails
 
 abbrev Used18 : Reach → Type 0
 Used18 s = (not (same_in s) ≡ false) × (s.slot_version ≡ largest_version)
@@ -236,9 +236,9 @@ Free28 s = (not (collects_in s) ≡ false) × (s.slot_version ≡ largest_versio
 abbrev collecting : Reach → Moved
 collecting s = storing (At 31) (to 31 s.me) (with_of s.set s.me.h.id) (at_slot 0 s)
 
-line28-collects : (k : ℕ) (p : Pool) → Free28 (here k p) → Made collecting k p ≡ Line28 k p
+line28_collects : (k : ℕ) (p : Pool) → Free28 (here k p) → Made collecting k p ≡ Line28 k p
 unfolding line28 puts unless when after_check
-line28-collects k p t = simp (not-false (collects k p) t.0, ne_eqb (slot_here p k).version largest_version t.1, set-get_or)
+line28_collects k p t = simp (not-false (collects k p) t.0, ne_eqb (slot_here p k).version largest_version t.1, set-get_or)
 
 pub take28_collects : {s : Reach} {m : Moved} → Free28 s → m ≡ collecting s → Takes Line28 s m
-take28_collects = takes Free28 collecting line28-collects
+take28_collects = takes Free28 collecting line28_collects

@@ -61,11 +61,11 @@ module _ (p : Pool) where
   buffers_beyond_lem : all_below 256 (zero_from p.states p.b) ≡ all_below 256 (buffers_beyond p)
   buffers_beyond_lem = all_cong 256 (zero_from p.states p.b) (buffers_beyond p) (λ k l. ap (λ (x : ℕ). ltb k p.b || eqb x 0) (entry k))
 
-  states-most : all_below 256 (most p.states 2) ≡ all_below 256 (state_in p)
-  states-most = all_cong 256 (most p.states 2) (state_in p) (λ k l. ap (λ (x : ℕ). leb x 2) (entry k))
+  states_most : all_below 256 (most p.states 2) ≡ all_below 256 (state_in p)
+  states_most = all_cong 256 (most p.states 2) (state_in p) (λ k l. ap (λ (x : ℕ). leb x 2) (entry k))
 
   pub states_fit : all_below 256 (fits p.states p.b) ≡ (all_below 256 (state_in p) && all_below 256 (buffers_beyond p))
-  states_fit = all_and 256 (most p.states 2) (zero_from p.states p.b) ∙ ap₂ ◌&&◌ states-most buffers_beyond_lem
+  states_fit = all_and 256 (most p.states 2) (zero_from p.states p.b) ∙ ap₂ ◌&&◌ states_most buffers_beyond_lem
 
   abbrev idle : ℕ → Bool
   idle k = ltb k p.w || zero_worker (worker_at p k)
@@ -102,7 +102,7 @@ scanned : (p : Pool)
 scanned p =
     rw (
       sound_tests p,
-      states-most p,
+      states_most p,
       buffers_beyond_lem p,
       workers_four p,
       guards_beyond_lem p,

@@ -9,7 +9,7 @@ use lib.ListN.{length, get_or}
 use borrow.Author.Tests.{eqb-true, eqb-false, ne_eqb, ltb-true, leb-true}
 use Rattle.basics.specs.Among.{among}
 use Rattle.basics.specs.Below.{all_below, any_below}
-use Rattle.basics.proofs.Picks.{when-back}
+use Rattle.basics.proofs.Picks.{when_back}
 use Rattle.basics.proofs.Truth.{or_cases, and_left, and_right}
 use Rattle.basics.proofs.All.{all_at}
 use Rattle.basics.proofs.Any.{among_each}
@@ -36,22 +36,22 @@ pub standing : (p : Pool) (w : WorkerNo) → stand_check p w ≡ fine → Standi
 unfolding stand_check
 standing p w h =
     let a = first_both (worker_check p w) _ h in
-    let b = when-back (eqb (worker_of p w).label 0) fine (refuse 5 0) fine never a.1 in
+    let b = when_back (eqb (worker_of p w).label 0) fine (refuse 5 0) fine never a.1 in
     record { worker = named p w a.0; busy = eqb-false _ _ b.0 }
 
 pub stands : (p : Pool) (w : WorkerNo) → stand_check p w ≡ fine → Stands p (w.0 - 1)
 stands p w h =
     let a = standing p w h in
-    record { sound = a.worker.sound; k-below = omega arith; busy = a.busy }
+    record { sound = a.worker.sound; k_below = omega arith; busy = a.busy }
 
 -- ---- its entry and registers
 
 module _ {p : Pool} {k : ℕ} (s : Stands p k) where
   pub in_use : InUse p k
-  in_use = worker_in (parts s.sound) k s.k-below
+  in_use = worker_in (parts s.sound) k s.k_below
 
-  pub worker-below : k < 8
-  worker-below = omega (arith, s.k-below, (sizes_of p s.sound).w-most)
+  pub worker_below : k < 8
+  worker_below = omega (arith, s.k_below, (sizes_of p s.sound).w_most)
 
 -- only at 12 and 32 may i be G
 pub at_guard : (g l : ℕ) (x : Worker) → place_in g x ≡ true → x.label ≡ l → (eqb l 12 || eqb l 32) ≡ false → x.i < g
@@ -60,8 +60,8 @@ at_guard g l x h e short =
     absurd (false≢true (rw (e, short) at (and_left (eqb x.label 12 || eqb x.label 32) (eqb x.i g) past))))
 
 -- and nowhere is it more
-pub place-most : (g : ℕ) (x : Worker) → place_in g x ≡ true → x.i ≤ g
-place-most g x h =
+pub place_most : (g : ℕ) (x : Worker) → place_in g x ≡ true → x.i ≤ g
+place_most g x h =
     or_cases (ltb x.i g) _ h (λ t. let l = ltb-true x.i g t in omega arith) (λ past.
     let e = eqb-true x.i g (and_right (eqb x.label 12 || eqb x.label 32) (eqb x.i g) past) in omega arith)
 
@@ -70,7 +70,7 @@ ready p k l s e short =
     let u = in_use s in
     let below = at_guard p.g l (worker_at p k) u.place e short in
     let sizes = sizes_of p s.sound in
-    record { k-below = worker-below s; i_below = omega arith; attempts_most = leb-true _ _ u.attempts }
+    record { k_below = worker_below s; i_below = omega arith; attempts_most = leb-true _ _ u.attempts }
 
 -- ---- the last label
 
@@ -85,8 +85,8 @@ labels_sorted : all_below (length labels) (λ j. sorted (get_or labels j 0)) ≡
 unfolding all_below any_below
 labels_sorted = refl
 
-pub last-label : {p : Pool} {k : ℕ} → Stands p k → among before32 (worker_at p k).label ≡ false → (worker_at p k).label ≡ 32
-last-label {p} {k} s none =
+pub last_label : {p : Pool} {k : ℕ} → Stands p k → among before32 (worker_at p k).label ≡ false → (worker_at p k).label ≡ 32
+last_label {p} {k} s none =
     let l = (worker_at p k).label in
     let all : sorted l ≡ true = among_each (λ l. sorted l ≡ true) labels (all_at (length labels) (λ j. sorted (get_or labels j 0)) labels_sorted) l (in_use s).label in
     let zero : eqb l 0 ≡ false = ne_eqb l 0 s.busy in

@@ -17,8 +17,8 @@ use Rattle.pool.specs.declared.Verdict.TheVariants.{Fine, Fault}
 use Rattle.pool.specs.Answers.{Said, Told, Check, fine, refuse, number_of, verdict, first, after_check, answer_after, answering, refused}
 
 -- the record that a callee made
-pub same-pool : (a : Said) (p q : Pool) → p ≡ q → answering a p ≡ answering a q
-same-pool a p q e = rw e
+pub same_pool : (a : Said) (p q : Pool) → p ≡ q → answering a p ≡ answering a q
+same_pool a p q e = rw e
 
 pub same_answer : (a b : Said) (p : Pool) → a ≡ b → answering a p ≡ answering b p
 same_answer a b p e = rw e
@@ -32,8 +32,8 @@ module _ (v : Verdict) {s : Check} (e : verdict v ≡ s) where
   pub refuse_by : (r : Refusal) (place : ℕ) → v ≡ Fault r place → s ≡ refuse (number_of r) place
   refuse_by r place q = sym e ∙ ap verdict q
 
-pub fine-told : (v : Verdict) → v ≡ Fine → verdict v ≡ fine
-fine-told v q = ap verdict q
+pub fine_told : (v : Verdict) → v ≡ Fine → verdict v ≡ fine
+fine_told v q = ap verdict q
 
 -- ---- what follows a check, by what the check found
 
@@ -41,18 +41,18 @@ pub first_fine : (v : Verdict) (x a b : Check) → verdict v ≡ a → v ≡ Fin
 unfolding first
 first_fine v x a b e q h = rw (fine_by v e q) h
 
-pub first-refuse : (v : Verdict) (r : Refusal) (place : ℕ) (a b : Check) → verdict v ≡ a → v ≡ Fault r place → refuse (number_of r) place ≡ first a b
+pub first_refuse : (v : Verdict) (r : Refusal) (place : ℕ) (a b : Check) → verdict v ≡ a → v ≡ Fault r place → refuse (number_of r) place ≡ first a b
 unfolding first
-first-refuse v r place a b e q = rw (refuse_by v e r place q)
+first_refuse v r place a b e q = rw (refuse_by v e r place q)
 
-pub after-fine : (v : Verdict) (x : Told) (a : Check) (p : Pool) (d : Told) → verdict v ≡ a → v ≡ Fine → x ≡ d → x ≡ after_check a p d
+pub after_fine : (v : Verdict) (x : Told) (a : Check) (p : Pool) (d : Told) → verdict v ≡ a → v ≡ Fine → x ≡ d → x ≡ after_check a p d
 unfolding after_check
-after-fine v x a p d e q h = rw (fine_by v e q) h
+after_fine v x a p d e q h = rw (fine_by v e q) h
 
-pub after-refuse : (v : Verdict) (r : Refusal) (place : ℕ) (a : Check) (p : Pool) (d : Told) → verdict v ≡ a → v ≡ Fault r place
+pub after_refuse : (v : Verdict) (r : Refusal) (place : ℕ) (a : Check) (p : Pool) (d : Told) → verdict v ≡ a → v ≡ Fault r place
     → answering (refused (number_of r) place) p ≡ after_check a p d
 unfolding after_check
-after-refuse v r place a p d e q = rw (refuse_by v e r place q)
+after_refuse v r place a p d e q = rw (refuse_by v e r place q)
 
 -- the same of two checks, of which the first that refuses counts
 module _ (v : Verdict) (a b : Check) (p : Pool) (d : Told) (e : verdict v ≡ a) where
@@ -66,25 +66,25 @@ module _ (v : Verdict) (a b : Check) (p : Pool) (d : Told) (e : verdict v ≡ a)
     both = rw (fine_by v e q)
 
     pub after_second : (r : Refusal) (place : ℕ) → u ≡ Fault r place → answering (refused (number_of r) place) p ≡ after_check (first a b) p d
-    after_second r place t = after-refuse u r place (first a b) p d (h ∙ both) t
+    after_second r place t = after_refuse u r place (first a b) p d (h ∙ both) t
 
     pub after_both : (x : Told) → u ≡ Fine → x ≡ d → x ≡ after_check (first a b) p d
-    after_both x t = after-fine u x (first a b) p d (h ∙ both) t
+    after_both x t = after_fine u x (first a b) p d (h ∙ both) t
 
-pub answer-fine : (v : Verdict) (x : Said) (a : Check) (s : Said) → verdict v ≡ a → v ≡ Fine → x ≡ s → x ≡ answer_after a s
+pub answer_fine : (v : Verdict) (x : Said) (a : Check) (s : Said) → verdict v ≡ a → v ≡ Fine → x ≡ s → x ≡ answer_after a s
 unfolding answer_after
-answer-fine v x a s e q h = rw (fine_by v e q) h
+answer_fine v x a s e q h = rw (fine_by v e q) h
 
-pub answer-refuse : (v : Verdict) (r : Refusal) (place : ℕ) (a : Check) (s : Said) → verdict v ≡ a → v ≡ Fault r place
+pub answer_refuse : (v : Verdict) (r : Refusal) (place : ℕ) (a : Check) (s : Said) → verdict v ≡ a → v ≡ Fault r place
     → refused (number_of r) place ≡ answer_after a s
 unfolding answer_after
-answer-refuse v r place a s e q = rw (refuse_by v e r place q)
+answer_refuse v r place a s e q = rw (refuse_by v e r place q)
 
 -- the check of an id alone
-pub id-first : (p : Pool) (id place : ℕ) (b : Check)
+pub id_first : (p : Pool) (id place : ℕ) (b : Check)
     → first (id_check p id place) b ≡ when (ltb id 1) (refuse 9 place) (when (ltb p.b id) (refuse 9 place) b)
 unfolding first id_check when
-id-first p id place b = go (ltb id 1) (ltb p.b id)
+id_first p id place b = go (ltb id 1) (ltb p.b id)
   where
     go : (t u : Bool)
         → first (when t (refuse 9 place) (when u (refuse 9 place) fine)) b ≡ when t (refuse 9 place) (when u (refuse 9 place) b)
@@ -100,17 +100,17 @@ pub judged : (v s : Verdict) (p : Pool) (w : WorkerNo)
 unfolding worker_check
 judged v s p w h e = rw e at h
 
-pub take-judged : (v s : Verdict) (p : Pool) (b : BufferId)
+pub take_judged : (v s : Verdict) (p : Pool) (b : BufferId)
     → verdict v ≡ first (verdict s) (when (ltb b.0 1) (refuse 9 0) (when (ltb p.b b.0) (refuse 9 0)
     (unless (eqb (state_of p b.0) 0) (refuse 11 0) fine))) → verdict s ≡ sound_check p
     → verdict v ≡ take_check p b
 unfolding take_check
-take-judged v s p b h e = rw id-first (rw e at h)
+take_judged v s p b h e = rw id_first (rw e at h)
 
-pub ruleset makes = (picks, same-pool)
+pub ruleset makes = (picks, same_pool)
 
-pub ruleset checks = (picks, first_fine, first-refuse)
+pub ruleset checks = (picks, first_fine, first_refuse)
 
-pub ruleset begins = (picks, after-fine, after-refuse, same-pool, same_answer)
+pub ruleset begins = (picks, after_fine, after_refuse, same_pool, same_answer)
 
-pub ruleset answers = (picks, answer-fine, answer-refuse)
+pub ruleset answers = (picks, answer_fine, answer_refuse)

@@ -31,7 +31,7 @@ number_of ListTooShort = 13
 number_of MemberNotLeaving = 14
 
 pub data Said : Type 0 where
-  accepted yes no None-found fired posted clear : Said
+  accepted yes no none_found fired posted clear : Said
   -- a label; a guard; a count of ids handed back; a count
   label guard back count : ℕ → Said
   -- a buffer and its number of places
@@ -45,7 +45,7 @@ said Yes = yes
 said No = no
 said (At l) = label l
 said (Hired g) = guard g.0
-said NoneFound = None-found
+said NoneFound = none_found
 said Fired = fired
 said Posted = posted
 said (Back n) = back n

@@ -11,7 +11,7 @@ use Rattle.worker.specs.Registers.{no_worker, to, with_i}
 use Rattle.worker.specs.Steps.{same_slot, at4, at12, at13, at15, at22, at25, at31}
 use Rattle.pool.specs.declared.WorkerNo.{WorkerNo}
 use Rattle.pool.specs.declared.Pool.{Pool}
-use Rattle.pool.specs.Answers.{Said, Told, Check, answering, label, guard, None-found, fired, posted, back, fine, refuse, first, after_check}
+use Rattle.pool.specs.Answers.{Said, Told, Check, answering, label, guard, none_found, fired, posted, back, fine, refuse, first, after_check}
 use Rattle.pool.specs.Record.{taken_at, posted_at, slot_at, state_of, worker_at, set_at, with_maxg, with_taken, with_employer, with_posted, with_slot, with_states, with_worker, with_set}
 use Rattle.pool.specs.Checks.{worker_of, worker_check}
 
@@ -50,7 +50,7 @@ ends k a p = answering a (with_set k no_ids (with_worker k no_worker p))
 unfoldable pub line2 : ℕ → Pool → Told
 line2 k p =
     unless (taken_at p (i_of p k)) (goes k 4 (with_taken (i_of p k) true p))
-    (when (eqb (i_of p k + 1) p.g) (ends k None-found p)
+    (when (eqb (i_of p k + 1) p.g) (ends k none_found p)
     (puts k (with_i (i_of p k + 1) (worker_at p k)) p))
 
 -- 4

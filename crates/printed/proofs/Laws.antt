@@ -13,8 +13,8 @@ use Rattle.basics.specs.Pick.{when}
 use Rattle.basics.proofs.Picks.{when_both}
 use Rattle.tables.specs.Write.{write_at}
 use Rattle.tables.proofs.Laws.{write_one, write_cons}
-use Rattle.tables.proofs.Left.{Left, left-first, left-room, left_on, left_done, put_both}
-use Rattle.pool.specs.Answers.{Said, accepted, yes, no, None-found, fired, posted, clear, label, guard, back, count, fault, refused}
+use Rattle.tables.proofs.Left.{Left, left_first_lem, left_room, left_on, left_done, put_both}
+use Rattle.pool.specs.Answers.{Said, accepted, yes, no, none_found, fired, posted, clear, label, guard, back, count, fault, refused}
 use Rattle.printed.specs.Printed.{decimal_in, decimal, spaced, spaced_all, in_words, line_for}
 
 -- ---- a number's digits
@@ -31,9 +31,9 @@ pub decimal_fits : (n : ℕ) → length (decimal n) ≤ 20
 unfolding decimal
 decimal_fits n = in_length 20 n
 
-pub decimal-one : (n : ℕ) → n < 10 → decimal n ≡ (48 + n) ∷ []
+pub decimal_one : (n : ℕ) → n < 10 → decimal n ≡ (48 + n) ∷ []
 unfolding decimal decimal_in when
-decimal-one n h = rw (lt-ltb n 10 h)
+decimal_one n h = rw (lt-ltb n 10 h)
 
 -- a number of k digits is the same in k + 1
 in_more : (k n : ℕ) → n < 10 ^ suc k → decimal_in (suc (suc k)) n ≡ decimal_in (suc k) n
@@ -67,7 +67,7 @@ unfolding in_words
 words_fit accepted l h = omega arith
 words_fit yes l h = omega arith
 words_fit no l h = omega arith
-words_fit None-found l h = omega arith
+words_fit none_found l h = omega arith
 words_fit fired l h = omega arith
 words_fit posted l h = omega arith
 words_fit clear l h = omega arith
@@ -85,8 +85,8 @@ line_fits number a l h =
     omega (arith, length-append (decimal number) (in_words a l ++ (10 ∷ [])), length-append (in_words a l) (10 ∷ []), decimal_fits number, words_fit a l h)
 
 -- ---- a turn of each loop
-pub bytes-first : (t : List ℕ) (k : ℕ) (s : List ℕ) → Left t k s t (k + 0) (drop 0 s)
-bytes-first t k s = let e : k + 0 ≡ k = omega arith in rw e (left-first t k s)
+pub bytes_first : (t : List ℕ) (k : ℕ) (s : List ℕ) → Left t k s t (k + 0) (drop 0 s)
+bytes_first t k s = let e : k + 0 ≡ k = omega arith in rw e (left_first_lem t k s)
 
 module _ (t₀ : List ℕ) (k : ℕ) (s t : List ℕ) (i : ℕ) (h : Left t₀ k s t (k + i) (drop i s)) where
   pub bytes_on : i < length s → Left t₀ k s (set t (k + i) (get_or s i 0)) (k + (i + 1)) (drop (i + 1) s)
@@ -100,14 +100,14 @@ module _ (t₀ : List ℕ) (k : ℕ) (s t : List ℕ) (i : ℕ) (h : Left t₀ k
 
 module _ (n : ℕ) (h : n < 10) where
   pub one_length : length (decimal n) ≡ 1
-  one_length = rw (decimal-one n h)
+  one_length = rw (decimal_one n h)
 
   -- one digit, written
   pub one_written : (t : List ℕ) (at : ℕ) → write_at t at (decimal n) ≡ set t at (48 + n)
-  one_written t at = rw (decimal-one n h) (write_one t at (48 + n))
+  one_written t at = rw (decimal_one n h) (write_one t at (48 + n))
 
-  pub one-put : (t w : List ℕ) (at r : ℕ) → r ≡ at + 1 → w ≡ set t at (48 + n) → (r ≡ at + length (decimal n)) × (w ≡ write_at t at (decimal n))
-  one-put t w at r p q = rw (decimal-one n h) (p, q ∙ sym (write_one t at (48 + n)))
+  pub one_put : (t w : List ℕ) (at r : ℕ) → r ≡ at + 1 → w ≡ set t at (48 + n) → (r ≡ at + length (decimal n)) × (w ≡ write_at t at (decimal n))
+  one_put t w at r p q = rw (decimal_one n h) (p, q ∙ sym (write_one t at (48 + n)))
 
 module _ (n : ℕ) (b : n < 2 ^ 64) (h : 10 ≤ n) where
   pub more_length : length (decimal n) ≡ length (decimal (n / 10)) + 1
@@ -119,9 +119,9 @@ module _ (n : ℕ) (b : n < 2 ^ 64) (h : 10 ≤ n) where
 
 -- ---- ids written
 
-pub spaced-put : (t v : List ℕ) (at n r : ℕ) → r ≡ at + 1 + length (decimal n) → v ≡ write_at (set t at 32) (at + 1) (decimal n) → (r ≡ at + length (spaced n)) × (v ≡ write_at t at (spaced n))
+pub spaced_put : (t v : List ℕ) (at n r : ℕ) → r ≡ at + 1 + length (decimal n) → v ≡ write_at (set t at 32) (at + 1) (decimal n) → (r ≡ at + length (spaced n)) × (v ≡ write_at t at (spaced n))
 unfolding spaced
-spaced-put t v at n r p q = (omega arith, q ∙ sym (write_cons t at 32 (decimal n)))
+spaced_put t v at n r p q = (omega arith, q ∙ sym (write_cons t at 32 (decimal n)))
 
 ids_step : (s : List ℕ) (n k : ℕ) → k < length s → k < n → spaced_all (drop k (take n s)) ≡ spaced (get_or s k 0) ++ spaced_all (drop (k + 1) (take n s))
 unfolding spaced_all
@@ -132,7 +132,7 @@ ids_step s n k l m =
 module _ (t₀ : List ℕ) (at : ℕ) (s : List ℕ) (n : ℕ) (t : List ℕ) (to k : ℕ) (h : Left t₀ at (spaced_all (take n s)) t to (spaced_all (drop k (take n s)))) where
   module _ (l : k < length s) (m : k < n) where
     pub ids_room : at + length (spaced_all (take n s)) ≤ length t₀ → to + length (spaced (get_or s k 0)) ≤ length t
-    ids_room r = left-room _ _ _ _ _ _ h (spaced (get_or s k 0)) (spaced_all (drop (k + 1) (take n s))) (ids_step s n k l m) r
+    ids_room r = left_room _ _ _ _ _ _ h (spaced (get_or s k 0)) (spaced_all (drop (k + 1) (take n s))) (ids_step s n k l m) r
 
     pub ids_on : (w : List ℕ) (r : ℕ) → r ≡ to + length (spaced (get_or s k 0)) → w ≡ write_at t to (spaced (get_or s k 0)) → Left t₀ at (spaced_all (take n s)) w r (spaced_all (drop (k + 1) (take n s)))
     ids_on w r p q = left_on _ _ _ _ _ _ h _ _ w r (ids_step s n k l m) p q

@@ -2,7 +2,7 @@
 use Rattle.std.specs.Prelude.{ℕ, zero, suc, ◌+◌, ◌/◌, ◌%◌, List, [], ◌∷◌, ◌++◌, take, ltb}
 use Rattle.basics.specs.Pick.{when}
 use Rattle.tables.specs.Bytes.{bytes}
-use Rattle.pool.specs.Answers.{Said, accepted, yes, no, None-found, fired, posted, clear, label, guard, back, count, fault, refused}
+use Rattle.pool.specs.Answers.{Said, accepted, yes, no, none_found, fired, posted, clear, label, guard, back, count, fault, refused}
 
 -- a number in decimal without leading zeros, in k digits at most
 unfoldable pub decimal_in : ℕ → ℕ → List ℕ
@@ -26,7 +26,7 @@ unfoldable pub in_words : Said → List ℕ → List ℕ
 in_words accepted list = bytes " ok"
 in_words (label l) list = bytes " at" ++ spaced l
 in_words (guard g) list = bytes " guard" ++ spaced g
-in_words None-found list = bytes " none"
+in_words none_found list = bytes " none"
 in_words fired list = bytes " fired"
 in_words posted list = bytes " posted"
 in_words (back n) list = bytes " back" ++ spaced_all (take n list)

@@ -13,7 +13,7 @@ use Rattle.basics.proofs.Picks.{when_both, unless_both}
 use Rattle.basics.proofs.Truth.{and_left, and_right, is_false}
 use Rattle.basics.proofs.All.{all_at, all_of}
 use Rattle.idset.specs.Members.{member_of, size_of}
-use Rattle.idset.proofs.Members.{member-id, id_low, id_high}
+use Rattle.idset.proofs.Members.{member_id, id_low, id_high}
 use Rattle.worker.specs.declared.Slot.{Slot}
 use Rattle.pool.specs.declared.Pool.{Pool}
 use Rattle.pool.specs.declared.WorkerNo.{WorkerNo}
@@ -24,7 +24,7 @@ use Rattle.pool.proofs.Standing.{standing}
 use Rattle.rules.specs.Calls.{advancing, call}
 use Rattle.rules.specs.Sentences.{answer, At, NotLeaving, AllLeaving, size, MayStore, at_18, at_28, AdvanceSentences}
 use Rattle.rules.proofs.Refused.{lines_answered}
-use Rattle.rules.proofs.Outcomes.{fine_apart, same_number, fine-says, refuse-says, said-refused, first_second}
+use Rattle.rules.proofs.Outcomes.{fine_apart, same_number, fine_says, refuse_says, said_refused, first_second}
 use Rattle.rules.proofs.Passed.{stand_up, stand_passes, has_worker}
 
 -- ---- the check of a slot's version
@@ -69,7 +69,7 @@ module _ (k : ℕ) (p : Pool) where
 
   leaving_all : all_below 256 leaves ≡ true → AllLeaving p k
   leaving_all h id m =
-      let i = member-id (set_at p k) id m in
+      let i = member_id (set_at p k) id m in
       let low = id_low id i in
       let high = id_high id i in
       let e : suc (id - 1) ≡ id = omega arith in
@@ -119,8 +119,8 @@ by_label l k p room n {P} h f g i =
     (λ u. when_both (λ c. c ≡ refuse n 0 → P) (eqb l 32) _ _ (λ v. i (eqb-true l 32 v)) (λ v q. absurd (fine_apart q)))) h
 
 -- slot i equals h in both parts
-same-slot : (k : ℕ) (p : Pool) → unchanged k p ≡ true → slot_here p k ≡ (worker_at p k).h
-same-slot k p t =
+same_slot_lem : (k : ℕ) (p : Pool) → unchanged k p ≡ true → slot_here p k ≡ (worker_at p k).h
+same_slot_lem k p t =
     ap₂ (λ (id version : ℕ). record { id = id; version = version })
     (eqb-true _ _ (and_left (eqb (slot_here p k).id (worker_at p k).h.id) _ t))
     (eqb-true _ _ (and_right (eqb (slot_here p k).id (worker_at p k).h.id) _ t))
@@ -141,31 +141,31 @@ module _ (p : Pool) (w : ℕ) (out : List ℕ) where
   l = (worker_at p k).label
 
   -- where the refusal is the label's own
-  refused-at : (n : ℕ) → 7 < n → n < 21 → answer (advancing w out) p ≡ refused n 0 → (stand_check p no ≡ fine) × (line_check l k p (length out) ≡ refuse n 0)
+  refused_at : (n : ℕ) → 7 < n → n < 21 → answer (advancing w out) p ≡ refused n 0 → (stand_check p no ≡ fine) × (line_check l k p (length out) ≡ refuse n 0)
   unfolding call advance_of advance_check
-  refused-at n high low h =
+  refused_at n high low h =
       first_second (stand_check p no) _ n 0 (λ q. omega (arith, stand_up p no n 0 q high))
-      (said-refused (advance_check p no (length out)) p _ n 0 (lines_answered l k p n 0) h)
+      (said_refused (advance_check p no (length out)) p _ n 0 (lines_answered l k p n 0) h)
 
   stands_at : (n : ℕ) → stand_check p no ≡ fine → l ≡ n → At p w n
   stands_at n h e = record { worker = has_worker (standing p no h).worker; label = e }
 
   refuses_at : (m n : ℕ) → At p w m → (m ≡ 0 → ⊥) → line_check m k p (length out) ≡ refuse n 0 → answer (advancing w out) p ≡ refused n 0
   unfolding call advance_of advance_check first
-  refuses_at m n a busy e = refuse-says (advance_check p no (length out)) p _ (rw (stand_passes p w m a busy, a.label) e)
+  refuses_at m n a busy e = refuse_says (advance_check p no (length out)) p _ (rw (stand_passes p w m a busy, a.label) e)
 
   -- 12: the store that was to be
   store_refused : answer (advancing w out) p ≡ refused 12 0 → MayStore p w × ((slot_here p k).version ≡ 4294967295)
   store_refused h =
-      let c = refused-at 12 (omega arith) (omega arith) h in
+      let c = refused_at 12 (omega arith) (omega arith) h in
       by_label l k p (length out) 12 c.1
-      (λ e q. version_refused (unchanged k p) k p 12 q (λ _ same largest. (at_18 (stands_at 18 c.0 e) (same-slot k p same), largest)))
+      (λ e q. version_refused (unchanged k p) k p 12 q (λ _ same largest. (at_18 (stands_at 18 c.0 e) (same_slot_lem k p same), largest)))
       (λ e q.
       version_refused (collects k p) k p 12 q (λ _ t largest.
       let u = and_left (unposted k p) _ t in
       let some = eqb-false _ _ (not-true _ (and_left (not (eqb (worker_at p k).h.id 0)) _ u)) in
       let other = eqb-false _ _ (not-true _ (and_right (not (eqb (worker_at p k).h.id 0)) _ u)) in
-      (at_28 (stands_at 28 c.0 e) some other (same-slot k p (and_right (unposted k p) _ t)), largest)))
+      (at_28 (stands_at 28 c.0 e) some other (same_slot_lem k p (and_right (unposted k p) _ t)), largest)))
       (λ e q. hand_refused k p (length out) 12 q (λ z _. absurd (omega arith)) (λ z _ _. absurd (omega arith)))
 
   refuses_store : MayStore p w → (slot_here p k).version ≡ 4294967295 → answer (advancing w out) p ≡ refused 12 0
@@ -178,7 +178,7 @@ module _ (p : Pool) (w : ℕ) (out : List ℕ) where
   -- 13 and 14 are given at 32 alone
   refused_at_32 : (n : ℕ) → 12 < n → n < 21 → answer (advancing w out) p ≡ refused n 0 → At p w 32 × (hand_check k p (length out) ≡ refuse n 0)
   refused_at_32 n high low h =
-      let c = refused-at n (omega arith) low h in
+      let c = refused_at n (omega arith) low h in
       by_label l k p (length out) n c.1
       (λ e q. version_refused (unchanged k p) k p n q (λ z _ _. absurd (omega arith)))
       (λ e q. version_refused (collects k p) k p n q (λ z _ _. absurd (omega arith)))
@@ -192,9 +192,9 @@ module _ (p : Pool) (w : ℕ) (out : List ℕ) where
   unfolding advance_check first line_check when
   hand_allowed a f h = rw (stand_passes p w 32 a (λ z. omega arith), a.label) (hand_passes k p (length out) f h)
 
-pub advance-sentences : AdvanceSentences
+pub advance_sentences : AdvanceSentences
 unfolding call advance_of line_of ends when size_of
-advance-sentences =
+advance_sentences =
     record {
       versions_used_up = λ p w out. (store_refused p w out, λ c. refuses_store p w out c.0 c.1);
       not_leaving = λ p w out. (
@@ -209,5 +209,5 @@ advance-sentences =
             hand_refused (w - 1) p (length out) 13 c.1 (λ z _. absurd (omega arith)) (λ _ f l. (c.0, f, l)),
         λ c. refuses_at_32 p w out 13 c.0 (refuses_13 (w - 1) p (length out) c.1 c.2),
       );
-      hands_back = λ p w out a f h. fine-says (advance_check p _ (length out)) p _ (hand_allowed p w out a f h) ∙ rw a.label;
+      hands_back = λ p w out a f h. fine_says (advance_check p _ (length out)) p _ (hand_allowed p w out a f h) ∙ rw a.label;
     }

@@ -21,15 +21,15 @@ use Rattle.pool.proofs.Firsts.{all_fine}
 use Rattle.pool.proofs.Checked.{sound_of_lem, sound_passes, begun, employed, buffer, fires, posts, takes, asks, gives_up}
 use Rattle.rules.specs.Calls.{asking, call}
 use Rattle.rules.specs.Sentences.{answer, Idle, Employs, IsBuffer, MayLeave, BeginSentences}
-use Rattle.rules.proofs.Outcomes.{apart, accepted_apart, fine_apart, after_both, fine-says, refuse-says, said_accepted, said-refused, first_second}
+use Rattle.rules.proofs.Outcomes.{apart, accepted_apart, fine_apart, after_both, fine_says, refuse_says, said_accepted, said_refused, first_second}
 use Rattle.rules.proofs.ListChecked.{listed}
-use Rattle.rules.proofs.Passed.{sound_up, begin_up, guard_up, id_up, idle_passes, guard_passes, id_passes, idle-worker, employs, is_buffer}
+use Rattle.rules.proofs.Passed.{sound_up, begin_up, guard_up, id_up, idle_passes, guard_passes, id_passes, idle_worker, employs, is_buffer}
 
 -- of a test that a refusal follows
-unless-failed : (t : Bool) (m at n place : ℕ) → unless t (refuse m at) fine ≡ refuse n place → t ≡ false
+unless_failed : (t : Bool) (m at n place : ℕ) → unless t (refuse m at) fine ≡ refuse n place → t ≡ false
 unfolding unless
-unless-failed true m at n place h = absurd (fine_apart h)
-unless-failed false m at n place h = refl
+unless_failed true m at n place h = absurd (fine_apart h)
+unless_failed false m at n place h = refl
 
 -- ---- what the calls' own checks find
 
@@ -39,12 +39,12 @@ module _ (p : Pool) (w g : ℕ) where
   unfolding fire_check first
   fire_finds a o t e = rw (idle_passes p w a, guard_passes p w g o) e
 
-  fire-found : fire_check p (record { 0 = w }) (record { 0 = g }) ≡ refuse 8 0 → Idle p w × Employs p w g × (eqb (posted_at p g) 0 ≡ false)
+  fire_found : fire_check p (record { 0 = w }) (record { 0 = g }) ≡ refuse 8 0 → Idle p w × Employs p w g × (eqb (posted_at p g) 0 ≡ false)
   unfolding fire_check
-  fire-found e =
+  fire_found e =
       let a = first_second (begin_check p _) _ 8 0 (λ q. omega (arith, begin_up p _ 8 0 q (omega arith))) e in
       let b = first_second (guard_check p _ _) _ 8 0 (λ q. omega (arith, guard_up p _ _ 8 0 q)) a.1 in
-      (idle-worker (begun p _ a.0), employs (employed p _ _ b.0), unless-failed _ 8 0 8 0 b.1)
+      (idle_worker (begun p _ a.0), employs (employed p _ _ b.0), unless_failed _ 8 0 8 0 b.1)
 
   post_passes : (b : ℕ) → Idle p w → Employs p w g → b ≤ p.b → post_check p (record { 0 = w }) (record { 0 = g }) (record { 0 = b }) ≡ fine
   unfolding post_check first when
@@ -84,7 +84,7 @@ module _ (p : Pool) (b : ℕ) where
   take_found e =
       let a = first_second (sound_check p) _ 11 0 (λ q. omega (arith, sound_up p 11 0 q (omega arith))) e in
       let c = first_second (id_check p b 0) _ 11 0 (λ q. omega (arith, id_up p b 0 11 0 q)) a.1 in
-      (sound_of_lem p a.0, is_buffer (buffer p b 0 c.0), unless-failed _ 11 0 11 0 c.1)
+      (sound_of_lem p a.0, is_buffer (buffer p b 0 c.0), unless_failed _ 11 0 11 0 c.1)
 
   ask_passes : (w : ℕ) → Idle p w → IsBuffer p b → ask_check p (record { 0 = w }) (record { 0 = b }) ≡ fine
   unfolding ask_check first
@@ -92,68 +92,68 @@ module _ (p : Pool) (b : ℕ) where
 
 -- ---- an ask answers yes or no, by the test t
 
-ask-told : (c : Check) (p : Pool) (t u : Bool) → (after_check c p (answering (when t said_yes said_no) p)).answer ≡ when u said_yes said_no
+ask_told : (c : Check) (p : Pool) (t u : Bool) → (after_check c p (answering (when t said_yes said_no) p)).answer ≡ when u said_yes said_no
     → (c ≡ fine) × (t ≡ u)
 unfolding after_check when
-ask-told fine p true true h = (refl, refl)
-ask-told fine p true false h = absurd (apart (cc))
-ask-told fine p false true h = absurd (apart (cc))
-ask-told fine p false false h = (refl, refl)
-ask-told (refuse n place) p t true h = absurd (apart (cc))
-ask-told (refuse n place) p t false h = absurd (apart (cc))
+ask_told fine p true true h = (refl, refl)
+ask_told fine p true false h = absurd (apart (cc))
+ask_told fine p false true h = absurd (apart (cc))
+ask_told fine p false false h = (refl, refl)
+ask_told (refuse n place) p t true h = absurd (apart (cc))
+ask_told (refuse n place) p t false h = absurd (apart (cc))
 
-ask-said : (p : Pool) (w b : ℕ) (u : Bool) → (answer (asking w b) p ≡ when u said_yes said_no) ↔ (Idle p w × IsBuffer p b × (eqb (state_of p b) 1 ≡ u))
+ask_said : (p : Pool) (w b : ℕ) (u : Bool) → (answer (asking w b) p ≡ when u said_yes said_no) ↔ (Idle p w × IsBuffer p b × (eqb (state_of p b) 1 ≡ u))
 unfolding call ask_of
-ask-said p w b u = (
-  λ h. let t = ask-told (ask_check p _ _) p _ u h in let a = asks p _ _ t.0 in (idle-worker a.begun, is_buffer a.buffer, t.1),
-  λ c. fine-says _ p _ (ask_passes p b w c.0 c.1) ∙ ap (λ (t : Bool). when t said_yes said_no) c.2,
+ask_said p w b u = (
+  λ h. let t = ask_told (ask_check p _ _) p _ u h in let a = asks p _ _ t.0 in (idle_worker a.begun, is_buffer a.buffer, t.1),
+  λ c. fine_says _ p _ (ask_passes p b w c.0 c.1) ∙ ap (λ (t : Bool). when t said_yes said_no) c.2,
 )
 
 pub begin_sentences : BeginSentences
 unfolding call hire_of fire_of post_of give_up_of take_of ask_of after_check when unless
 begin_sentences =
     record {
-      hire = λ p w. (λ h. idle-worker (begun p _ (said_accepted _ p _ h)), λ a. fine-says _ p _ (idle_passes p w a));
+      hire = λ p w. (λ h. idle_worker (begun p _ (said_accepted _ p _ h)), λ a. fine_says _ p _ (idle_passes p w a));
       fire = λ p w g. (
-        λ h. let a = fires p _ _ (said_accepted _ p _ h) in (idle-worker a.begun, employs a.guard, a.unposted),
-        λ c. fine-says _ p _ (fire_finds p w g c.0 c.1 fine (rw (eq-eqb (posted_at p g) 0 c.2))),
+        λ h. let a = fires p _ _ (said_accepted _ p _ h) in (idle_worker a.begun, employs a.guard, a.unposted),
+        λ c. fine_says _ p _ (fire_finds p w g c.0 c.1 fine (rw (eq-eqb (posted_at p g) 0 c.2))),
       );
-      fire-posted = λ p w g. (
-        λ h. let a = fire-found p w g (said-refused _ p _ 8 0 accepted_apart h) in (a.0, a.1, eqb-false _ _ a.2),
-        λ c. refuse-says _ p _ (fire_finds p w g c.0 c.1 (refuse 8 0) (rw (ne_eqb (posted_at p g) 0 c.2))),
+      fire_posted = λ p w g. (
+        λ h. let a = fire_found p w g (said_refused _ p _ 8 0 accepted_apart h) in (a.0, a.1, eqb-false _ _ a.2),
+        λ c. refuse_says _ p _ (fire_finds p w g c.0 c.1 (refuse 8 0) (rw (ne_eqb (posted_at p g) 0 c.2))),
       );
       post = λ p w g b. (
-        λ h. let a = posts p _ _ _ (said_accepted _ p _ h) in (idle-worker a.begun, employs a.guard, a.most),
-        λ c. fine-says _ p _ (post_passes p w g b c.0 c.1 c.2),
+        λ h. let a = posts p _ _ _ (said_accepted _ p _ h) in (idle_worker a.begun, employs a.guard, a.most),
+        λ c. fine_says _ p _ (post_passes p w g b c.0 c.1 c.2),
       );
       give_up = λ p w ids. (
-        λ h. let a = gives_up p _ ids (said_accepted _ p _ h) in (idle-worker a.begun, may_leave p ids (length ids) a.list),
-        λ c. fine-says _ p _ (give_up_passes p ids w c.0 c.1),
+        λ h. let a = gives_up p _ ids (said_accepted _ p _ h) in (idle_worker a.begun, may_leave p ids (length ids) a.list),
+        λ c. fine_says _ p _ (give_up_passes p ids w c.0 c.1),
       );
       take = λ p b. (
         λ h. let a = takes p _ (said_accepted _ p _ h) in (a.sound, is_buffer a.buffer, a.free),
-        λ c. fine-says _ p _ (take_finds p b c.0 c.1 fine (rw c.2)),
+        λ c. fine_says _ p _ (take_finds p b c.0 c.1 fine (rw c.2)),
       );
       take_serves = λ p b s h.
           let e = said_accepted (take_check p _) p _ h in
           let a = takes p _ e in
           let long = s.states in
           rw e (get_or-set_same p.states (b - 1) 1 0 (omega arith));
-      take-others = λ p b id some other.
+      take_others = λ p b id some other.
           after_both (λ t. state_of t.pool id ≡ state_of p id) (take_check p _) p _
           (λ e. let a = takes p _ e in get_or-set_other p.states (b - 1) (id - 1) 1 0 (λ q. other (omega arith)))
           (λ n place e. refl);
       take_not_free = λ p b. (
-        λ h. let a = take_found p b (said-refused _ p _ 11 0 accepted_apart h) in (a.0, a.1, eqb-false _ _ a.2),
-        λ c. refuse-says _ p _ (take_finds p b c.0 c.1 (refuse 11 0) (rw (ne_eqb (state_of p b) 0 c.2))),
+        λ h. let a = take_found p b (said_refused _ p _ 11 0 accepted_apart h) in (a.0, a.1, eqb-false _ _ a.2),
+        λ c. refuse_says _ p _ (take_finds p b c.0 c.1 (refuse 11 0) (rw (ne_eqb (state_of p b) 0 c.2))),
       );
       ask_yes = λ p w b. (
-        λ h. let c = (ask-said p w b true).0 h in (c.0, c.1, eqb-true _ _ c.2),
-        λ c. (ask-said p w b true).1 (c.0, c.1, eq-eqb _ _ c.2),
+        λ h. let c = (ask_said p w b true).0 h in (c.0, c.1, eqb-true _ _ c.2),
+        λ c. (ask_said p w b true).1 (c.0, c.1, eq-eqb _ _ c.2),
       );
       ask_no = λ p w b. (
-        λ h. let c = (ask-said p w b false).0 h in (c.0, c.1, eqb-false _ _ c.2),
-        λ c. (ask-said p w b false).1 (c.0, c.1, ne_eqb _ _ c.2),
+        λ h. let c = (ask_said p w b false).0 h in (c.0, c.1, eqb-false _ _ c.2),
+        λ c. (ask_said p w b false).1 (c.0, c.1, ne_eqb _ _ c.2),
       );
       ask_leaves = λ p w b. after_both (λ t. t.pool ≡ p) (ask_check p _ _) p _ (λ e. refl) (λ n place e. refl);
     }

@@ -11,7 +11,7 @@ use Rattle.basics.specs.Below.{any_below}
 use Rattle.basics.specs.Among.{among}
 use Rattle.basics.proofs.Truth.{and_right}
 use Rattle.idset.specs.Members.{is_id, within_of, set_of}
-use Rattle.idset.proofs.Members.{member-set_of}
+use Rattle.idset.proofs.Members.{member_set_of}
 use Rattle.idset.proofs.Within.{within_all}
 use Rattle.worker.specs.Registers.{to, with_i, with_v}
 use Rattle.pool.specs.declared.Pool.{Pool}
@@ -27,7 +27,7 @@ use Rattle.pool.proofs.Parts.{Parts, parts, whole, three_at, worker_in}
 use Rattle.pool.proofs.Checked.{begun, fires, posts, gives_up, takes}
 use Rattle.rules.proofs.Outcomes.{after_both}
 use Rattle.rules.proofs.ListChecked.{listed_buffer}
-use Rattle.rules.proofs.Kept.{worker-kept, set-kept, employer-kept, some_states_kept, state-kept}
+use Rattle.rules.proofs.Kept.{worker_kept, set_kept, employer_kept, some_states_kept, state_kept}
 
 -- a refusal hands the record back
 pub after_kept : (c : Check) (p : Pool) (d : Told) → sound_of p ≡ true → (c ≡ fine → Parts d.pool) → sound_of (after_check c p d).pool ≡ true
@@ -39,7 +39,7 @@ module _ {p : Pool} (s : Parts p) (k : ℕ) (l : k < p.w) where
       → Parts (with_worker k (to label (with_v v (with_i i (worker_at p k)))) p)
   sent label i v known three lower most =
       let u = worker_in s k l in
-      worker-kept s k l (to label (with_v v (with_i i (worker_at p k)))) known
+      worker_kept s k l (to label (with_v v (with_i i (worker_at p k)))) known
       (rw (le-leb v p.b most, u.h, u.members))
       (rw (lt-ltb i p.g lower, u.max, u.attempts, three) (or-true (leb (worker_at p k).attempts 2)))
 
@@ -56,30 +56,30 @@ module _ (p : Pool) (ids : List ℕ) (h : list_check p ids (length ids) ≡ fine
   members_within : within_of (set_of (among ids)) p.b ≡ true
   members_within =
       within_all (set_of (among ids)) p.b (λ id m.
-      (listed_buffer p ids h id (and_right (is_id id) (among ids id) (sym (member-set_of (among ids) id) ∙ m))).most)
+      (listed_buffer p ids h id (and_right (is_id id) (among ids id) (sym (member_set_of (among ids) id) ∙ m))).most)
 
-  leaving-kept : Parts p → Parts (with_states (leaving ids p) p)
-  leaving-kept s = some_states_kept s (among ids) 2 (λ id e. (listed_buffer p ids h id e).most) (omega arith)
+  leaving_kept : Parts p → Parts (with_states (leaving ids p) p)
+  leaving_kept s = some_states_kept s (among ids) 2 (λ id e. (listed_buffer p ids h id e).most) (omega arith)
 
 -- ---- the calls
 
 module _ (p : Pool) where
-  pub hire-kept : (w : WorkerNo) → sound_of p ≡ true → sound_of (hire_of p w).pool ≡ true
+  pub hire_kept : (w : WorkerNo) → sound_of p ≡ true → sound_of (hire_of p w).pool ≡ true
   unfolding hire_of any_below
-  hire-kept w h = after_kept (begin_check p w) p _ h (λ e.
+  hire_kept w h = after_kept (begin_check p w) p _ h (λ e.
       let a = begun p w e in
       sent_on (parts h) (w.0 - 1) (omega arith) 2 0 refl refl (omega arith))
 
-  pub fire-kept : (w : WorkerNo) (g : GuardNo) → sound_of p ≡ true → sound_of (fire_of p w g).pool ≡ true
+  pub fire_kept : (w : WorkerNo) (g : GuardNo) → sound_of p ≡ true → sound_of (fire_of p w g).pool ≡ true
   unfolding fire_of any_below
-  fire-kept w g h = after_kept (fire_check p w g) p _ h (λ e.
+  fire_kept w g h = after_kept (fire_check p w g) p _ h (λ e.
       let a = fires p w g e in
       let below = a.guard.guard_below in
-      sent_on (employer-kept (parts h) g.0 below 0 (omega arith)) (w.0 - 1) (omega arith) 7 g.0 refl refl below)
+      sent_on (employer_kept (parts h) g.0 below 0 (omega arith)) (w.0 - 1) (omega arith) 7 g.0 refl refl below)
 
-  pub post-kept : (w : WorkerNo) (g : GuardNo) (b : BufferId) → sound_of p ≡ true → sound_of (post_of p w g b).pool ≡ true
+  pub post_kept : (w : WorkerNo) (g : GuardNo) (b : BufferId) → sound_of p ≡ true → sound_of (post_of p w g b).pool ≡ true
   unfolding post_of any_below
-  post-kept w g b h = after_kept (post_check p w g b) p _ h (λ e.
+  post_kept w g b h = after_kept (post_check p w g b) p _ h (λ e.
       let a = posts p w g b e in
       sent (parts h) (w.0 - 1) (omega arith) 9 g.0 b.0 refl refl a.guard.guard_below a.most)
 
@@ -88,15 +88,15 @@ module _ (p : Pool) where
   give_up_kept w ids h = after_kept (give_up_check p w ids) p _ h (λ e.
       let a = gives_up p w ids e in
       let l : w.0 - 1 < p.w = omega arith in
-      sent_on (set-kept (leaving-kept p ids a.list (parts h)) (w.0 - 1) l (set_of (among ids)) (members_within p ids a.list))
+      sent_on (set_kept (leaving_kept p ids a.list (parts h)) (w.0 - 1) l (set_of (among ids)) (members_within p ids a.list))
       (w.0 - 1) l 12 0 refl refl (omega arith))
 
-  pub take-kept : (b : BufferId) → sound_of p ≡ true → sound_of (take_of p b).pool ≡ true
+  pub take_kept : (b : BufferId) → sound_of p ≡ true → sound_of (take_of p b).pool ≡ true
   unfolding take_of
-  take-kept b h = after_kept (take_check p b) p _ h (λ e.
+  take_kept b h = after_kept (take_check p b) p _ h (λ e.
       let a = takes p b e in
-      state-kept (parts h) b.0 1 a.buffer.some a.buffer.most (omega arith))
+      state_kept (parts h) b.0 1 a.buffer.some a.buffer.most (omega arith))
 
-  pub ask-kept : (w : WorkerNo) (b : BufferId) → sound_of p ≡ true → sound_of (ask_of p w b).pool ≡ true
+  pub ask_kept : (w : WorkerNo) (b : BufferId) → sound_of p ≡ true → sound_of (ask_of p w b).pool ≡ true
   unfolding ask_of
-  ask-kept w b h = after_kept (ask_check p w b) p _ h (λ e. parts h)
+  ask_kept w b h = after_kept (ask_check p w b) p _ h (λ e. parts h)

@@ -47,14 +47,14 @@ says_first (refuse m at) b {A} {B} {F} {G} s t =
 
 -- ---- the tests
 
-says-counts : (t : Bool) → Says (keeps 21 0 t) (t ≡ true) (λ n place. (t ≡ false) × (n ≡ 21) × (place ≡ 0))
+says_counts : (t : Bool) → Says (keeps 21 0 t) (t ≡ true) (λ n place. (t ≡ false) × (n ≡ 21) × (place ≡ 0))
 unfolding unless
-says-counts true =
+says_counts true =
     record {
       passes = (λ h. refl, λ h. refl);
       fails = λ n place. (λ h. absurd (fine_apart h), λ h. absurd (true≢false h.0));
     }
-says-counts false =
+says_counts false =
     record {
       passes = (λ h. absurd (fine_apart (sym h)), λ h. absurd (true≢false (sym h)));
       fails = λ n place. (λ h. (refl, sym (same_number h), sym (same_place h)), λ h. rw (h.1, h.2));
@@ -123,10 +123,10 @@ module _ (rule : ℕ) where
       (Guards f × (Buffers g × Workers h)) (FirstOf rule f g h)
   of_three f g h = says_first _ _ (guards f) (says_first _ _ (buffers g) (workers h))
 
-pub says-sound : (p : Pool) → Says (sound_check p) (Keeps21 p × (Keeps22 p × (Keeps23 p × (Keeps24 p × Keeps25 p)))) (Breaks p)
+pub says_sound : (p : Pool) → Says (sound_check p) (Keeps21 p × (Keeps22 p × (Keeps23 p × (Keeps24 p × Keeps25 p)))) (Breaks p)
 unfolding sound_check counts_check beyond_check kinds_check ids_check registers_check
-says-sound p =
-    says_first _ _ (says-counts (counts_sound p))
+says_sound p =
+    says_first _ _ (says_counts (counts_sound p))
     (says_first _ _ (of_three 22 (guards_beyond p) (buffers_beyond p) (workers_beyond p))
     (says_first _ _ (of_three 23 (employer_in p) (state_in p) (label_in p))
     (says_first _ _ (says_first _ _ (guards 24 (guard_ids p)) (workers 24 (worker_ids p)))
@@ -153,4 +153,4 @@ in_range_lem p {n} b =
     by e low high = (omega arith, omega arith)
 
 pub rule_low : (p : Pool) {n place : ℕ} → sound_check p ≡ refuse n place → 21 ≤ n
-rule_low p {n} {place} h = (in_range_lem p (((says-sound p).fails n place).0 h)).0
+rule_low p {n} {place} h = (in_range_lem p (((says_sound p).fails n place).0 h)).0

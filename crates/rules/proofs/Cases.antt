@@ -5,9 +5,9 @@ use Rattle.pool.specs.declared.Pool.{Pool}
 use Rattle.pool.specs.Record.{blank, with_taken, with_employer, with_posted, with_slot, with_state}
 use Rattle.pool.specs.Sound.{sound_of}
 use Rattle.rules.specs.Cases.{Case, Hold, all_held, holds, answers, list_at_end, left, shown_by, shown, advances, case1, case2, case3, case4, case5, case6, case7, case8, case9a, case9b, case10, starred}
-use Rattle.rules.proofs.Fresh.{made-sound}
+use Rattle.rules.proofs.Fresh.{made_sound}
 use Rattle.rules.proofs.CallsKept.{run_sound}
-use Rattle.rules.proofs.SoundRuns.{sound_after, sound_seen, sound-after, sound-seen, running}
+use Rattle.rules.proofs.SoundRuns.{sound_after, sound_seen, sound_after_lem, sound_seen_lem, running}
 
 -- what a case computes by
 playing : Unit {0}
@@ -18,31 +18,31 @@ playing = tt
 show : (c : Case) (p : Pool) → c.start ≡ p → sound_of p ≡ true
     → shown_by (sound_seen c.calls p) (sound_after c.calls p) c.looked_at ≡ c.expected → shown c ≡ c.expected
 unfolding shown left
-show c p start sound e = rw (start, sound-seen c.calls p sound, sound-after c.calls p sound) e
+show c p start sound e = rw (start, sound_seen_lem c.calls p sound, sound_after_lem c.calls p sound) e
 
 leaves : (c : Case) (p q : Pool) → c.start ≡ p → sound_of p ≡ true → sound_after c.calls p ≡ q → left c ≡ q
 unfolding left
-leaves c p q start sound e = rw (start, sound-after c.calls p sound) e
+leaves c p q start sound e = rw (start, sound_after_lem c.calls p sound) e
 
-left-sound : (c : Case) (p q : Pool) → c.start ≡ p → sound_of p ≡ true → left c ≡ q → sound_of q ≡ true
+left_sound : (c : Case) (p q : Pool) → c.start ≡ p → sound_of p ≡ true → left c ≡ q → sound_of q ≡ true
 unfolding left
-left-sound c p q start sound e = rw (← e, start) (run_sound c.calls p sound)
+left_sound c p q start sound e = rw (← e, start) (run_sound c.calls p sound)
 
 -- ---- fresh pools
 
 abbrev fresh : Pool
 fresh = blank 2 2 3
 
-fresh-sound : sound_of fresh ≡ true
-fresh-sound = made-sound 2 2 3 refl
+fresh_sound : sound_of fresh ≡ true
+fresh_sound = made_sound 2 2 3 refl
 
 show1 : shown case1 ≡ case1.expected
 unfolding playing
-show1 = show case1 fresh refl fresh-sound refl
+show1 = show case1 fresh refl fresh_sound refl
 
 show4 : shown case4 ≡ case4.expected
 unfolding playing
-show4 = show case4 fresh refl fresh-sound refl
+show4 = show case4 fresh refl fresh_sound refl
 
 -- ---- where case 1 ended: guard 0 is with worker 1
 
@@ -51,11 +51,11 @@ hired = with_taken 0 true (with_employer 0 1 fresh)
 
 pub left1 : left case1 ≡ hired
 unfolding playing
-left1 = leaves case1 fresh hired refl fresh-sound refl
+left1 = leaves case1 fresh hired refl fresh_sound refl
 
 pub hired_sound : sound_of hired ≡ true
 unfolding playing
-hired_sound = left-sound case1 fresh hired refl fresh-sound left1
+hired_sound = left_sound case1 fresh hired refl fresh_sound left1
 
 show2 : shown case2 ≡ case2.expected
 unfolding playing
@@ -74,17 +74,17 @@ pub left5 : left case5 ≡ kept
 unfolding playing
 left5 = leaves case5 hired kept left1 hired_sound refl
 
-pub kept-sound : sound_of kept ≡ true
+pub kept_sound : sound_of kept ≡ true
 unfolding playing
-kept-sound = left-sound case5 hired kept left1 hired_sound left5
+kept_sound = left_sound case5 hired kept left1 hired_sound left5
 
 show6 : shown case6 ≡ case6.expected
 unfolding playing
-show6 = show case6 kept left5 kept-sound refl
+show6 = show case6 kept left5 kept_sound refl
 
 show7 : shown case7 ≡ case7.expected
 unfolding playing
-show7 = show case7 kept left5 kept-sound refl
+show7 = show case7 kept left5 kept_sound refl
 
 -- ---- records made for the case
 

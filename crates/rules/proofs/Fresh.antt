@@ -40,8 +40,8 @@ zeros n i = repeated n i 0
 set_of_blank : (w g b k : ℕ) → k < 8 → set_at (blank w g b) k ≡ no_ids
 set_of_blank w g b k h = get_or-replicate 8 k no_ids (record { words = [] }) h
 
-pub blank-fresh : (w g b : ℕ) → Fresh w g b (blank w g b)
-blank-fresh w g b =
+pub blank_fresh : (w g b : ℕ) → Fresh w g b (blank w g b)
+blank_fresh w g b =
     record {
       workers = refl;
       guards = refl;
@@ -80,8 +80,8 @@ module _ (w g b : ℕ) (h : in_range w g b ≡ true) where
         registers = all_of 8 _ (λ k l. rw (repeated 8 k no_worker, some));
       }
 
-  pub made-sound : sound_of (blank w g b) ≡ true
-  made-sound = whole made_parts
+  pub made_sound : sound_of (blank w g b) ≡ true
+  made_sound = whole made_parts
 
 -- ---- what making hands back
 
@@ -93,13 +93,13 @@ zero_not_sound : sound_of (blank 0 0 0) ≡ false
 unfolding sound_of sound_check counts_check unless first
 zero_not_sound = refl
 
-pub made-fresh : MadeFresh
-made-fresh =
+pub made_fresh : MadeFresh
+made_fresh =
     record {
-      in_range_lem = λ w g b h.
+      made_in_range = λ w g b h.
           let e = made w g b h in
-          record { answer = rw e; fresh = rw e (blank-fresh w g b); sound = rw e (made-sound w g b h) };
+          record { answer = rw e; fresh = rw e (blank_fresh w g b); sound = rw e (made_sound w g b h) };
       out_of_range = λ w g b h.
           let e = unmade w g b h in
-          record { answer = rw e; all_zero = rw e (blank-fresh 0 0 0); unsound = rw e zero_not_sound };
+          record { answer = rw e; all_zero = rw e (blank_fresh 0 0 0); unsound = rw e zero_not_sound };
     }

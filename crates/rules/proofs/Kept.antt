@@ -68,8 +68,8 @@ module _ {p : Pool} (s : Parts p) where
   workers : Workers p
   workers = (s.workers_beyond_lem, s.labels, s.worker_ids_lem, s.registers)
 
-  pub maxg-kept : (m : ℕ) → m < p.g → Parts (with_maxg m p)
-  maxg-kept m h =
+  pub maxg_kept : (m : ℕ) → m < p.g → Parts (with_maxg m p)
+  maxg_kept m h =
       made_up (ap₂ ◌&&◌ (and_left (in_range p.w p.g p.b) (ltb p.maxg p.g) s.counts) (lt-ltb m p.g h))
       guards buffers workers
 
@@ -79,12 +79,12 @@ module _ {p : Pool} (s : Parts p) where
   beyond_guards q = all_beyond 32 p.g (zero_guard p) (zero_guard q) s.guards_beyond_lem
 
   module _ (i : ℕ) (l : i < p.g) where
-    pub taken-kept : (t : Bool) → Parts (with_taken i t p)
-    taken-kept t =
+    pub taken_kept : (t : Bool) → Parts (with_taken i t p)
+    taken_kept t =
         made_up s.counts (beyond_guards (with_taken i t p) (λ k b. rw (past l p.taken t false k b)), s.employers, s.guard_ids_lem) buffers workers
 
-    pub employer-kept : (n : ℕ) → n ≤ p.w → Parts (with_employer i n p)
-    employer-kept n h =
+    pub employer_kept : (n : ℕ) → n ≤ p.w → Parts (with_employer i n p)
+    employer_kept n h =
         made_up s.counts (
           beyond_guards (with_employer i n p) (λ k b. rw (past l p.employer n 0 k b)),
           all_set 32 (λ k x. leb x p.w) p.employer i n 0 s.employers (le-leb n p.w h),
@@ -97,8 +97,8 @@ module _ {p : Pool} (s : Parts p) where
         let sizes = sizes_of p (whole s) in
         each (leb (posted_at p i) p.b) (leb (slot_at p i).id p.b ∷ []) (all_at 32 (guard_ids p) s.guard_ids_lem i (omega arith))
 
-    pub posted-kept : (id : ℕ) → id ≤ p.b → Parts (with_posted i id p)
-    posted-kept id h =
+    pub posted_kept : (id : ℕ) → id ≤ p.b → Parts (with_posted i id p)
+    posted_kept id h =
         made_up s.counts (
           beyond_guards (with_posted i id p) (λ k b. rw (past l p.posted id 0 k b)),
           s.employers,
@@ -118,8 +118,8 @@ module _ {p : Pool} (s : Parts p) where
 
   -- ---- buffers
 
-  pub states-kept : (l : List ℕ) → all_below 256 (fits l p.b) ≡ true → Parts (with_states l p)
-  states-kept l h =
+  pub states_kept : (l : List ℕ) → all_below 256 (fits l p.b) ≡ true → Parts (with_states l p)
+  states_kept l h =
       let q = with_states l p in
       made_up s.counts guards
       (each (all_below 256 (λ k. leb (state_of q (suc k)) 2)) (all_below 256 (buffers_beyond q) ∷ []) (sym (states_fit q) ∙ h)) workers
@@ -127,9 +127,9 @@ module _ {p : Pool} (s : Parts p) where
   states_fitted : all_below 256 (fits p.states p.b) ≡ true
   states_fitted = states_fit p ∙ ap₂ ◌&&◌ s.states s.buffers_beyond_lem
 
-  pub state-kept : (id x : ℕ) → 1 ≤ id → id ≤ p.b → x ≤ 2 → Parts (with_state id x p)
-  state-kept id x some most h =
-      states-kept (set p.states (id - 1) x)
+  pub state_kept : (id x : ℕ) → 1 ≤ id → id ≤ p.b → x ≤ 2 → Parts (with_state id x p)
+  state_kept id x some most h =
+      states_kept (set p.states (id - 1) x)
       (all_set 256 (λ k x. leb x 2 && (ltb k p.b || eqb x 0)) p.states (id - 1) x 0 states_fitted
       (rw (le-leb x 2 h, lt-ltb (id - 1) p.b (omega arith))))
 
@@ -138,7 +138,7 @@ module _ {p : Pool} (s : Parts p) where
       → Parts (with_states (table 256 (λ k. when (test (suc k)) x (state_of p (suc k)))) p)
   unfolding when
   some_states_kept test x most h =
-      states-kept (table 256 new) (all_of 256 (fits (table 256 new) p.b) (λ k l. rw (table_at 256 new k 0 l) (go k l (test (suc k)) refl)))
+      states_kept (table 256 new) (all_of 256 (fits (table 256 new) p.b) (λ k l. rw (table_at 256 new k 0 l) (go k l (test (suc k)) refl)))
     where
       new : ℕ → ℕ
       new k = when (test (suc k)) x (state_of p (suc k))
@@ -154,9 +154,9 @@ module _ {p : Pool} (s : Parts p) where
   beyond_workers q = all_beyond 8 p.w (zeroed p) (zeroed q) s.workers_beyond_lem
 
   module _ (k : ℕ) (l : k < p.w) where
-    pub worker-kept : (x : Worker) → is_label x.label ≡ true → ids_in p.b x (set_at p k) ≡ true → registers_in p.g x ≡ true
+    pub worker_kept : (x : Worker) → is_label x.label ≡ true → ids_in p.b x (set_at p k) ≡ true → registers_in p.g x ≡ true
         → Parts (with_worker k x p)
-    worker-kept x label ids registers =
+    worker_kept x label ids registers =
         made_up s.counts guards buffers (
           beyond_workers (with_worker k x p) (λ j b. rw (past l p.workers x no_worker j b)),
           all_set 8 (λ j y. is_label y.label) p.workers k x no_worker s.labels label,
@@ -164,8 +164,8 @@ module _ {p : Pool} (s : Parts p) where
           all_set 8 (λ j y. registers_in p.g y) p.workers k x no_worker s.registers registers,
         )
 
-    pub set-kept : (t : IdSet) → within_of t p.b ≡ true → Parts (with_set k t p)
-    set-kept t h =
+    pub set_kept : (t : IdSet) → within_of t p.b ≡ true → Parts (with_set k t p)
+    set_kept t h =
         let u = worker_in s k l in
         let none : IdSet = record { words = [] } in
         made_up s.counts guards buffers (

@@ -21,7 +21,7 @@ use Rattle.pool.specs.Sound.{sound_of}
 use Rattle.pool.specs.Checks.{worker_of}
 use Rattle.pool.specs.Steps.{puts, line_of, line_check, stand_check, advance_check, advance_of, list_after_check, list_after}
 use Rattle.pool.specs.ForProofs.Ready.{Stands}
-use Rattle.pool.proofs.Standing.{ready, last-label}
+use Rattle.pool.proofs.Standing.{ready, last_label}
 use Rattle.rules.specs.Lent.{alone, Agree, Lent}
 use Rattle.rules.proofs.EachLine.{by_line}
 use Rattle.rules.proofs.Passed.{stand_passes}
@@ -68,7 +68,7 @@ module _ (p : Pool) (k : ℕ) (s : Stands p k) (mine : own (worker_at p k).label
         at25 = λ e. taken _ (step_25 _ _ _ _ _ e);
         at28 = λ e. absurd (other 28 refl e);
         at31 = λ e. taken _ (step_31 _ _ _ _ _ e (omega (arith, (ready p k 31 s e refl).i_below)));
-        at32 = λ none. absurd (other 32 refl (last-label s none));
+        at32 = λ none. absurd (other 32 refl (last_label s none));
       })
 
   not_here : (n : ℕ) → own n ≡ false → eqb l n ≡ false
@@ -89,7 +89,7 @@ module _ (p : Pool) (w : WorkerNo) (out : List ℕ) (sound : sound_of p ≡ true
   busy e = true≢false (sym mine ∙ ap own e)
 
   stood : Stands p k
-  stood = record { sound = sound; k-below = omega arith; busy = busy }
+  stood = record { sound = sound; k_below = omega arith; busy = busy }
 
   may_stand : stand_check p w ≡ fine
   may_stand = stand_passes p w.0 _ (record { worker = record { sound = sound; some = some; most = most }; label = refl }) busy
@@ -114,4 +114,4 @@ module _ (p : Pool) (w : WorkerNo) (out : List ℕ) (sound : sound_of p ≡ true
   agree = record { applies = (line_taken p k stood mine).0; advanced = is_advance; worker = worker_is; list = list_is }
 
 pub lent : Lent
-lent = record { own-labels = agree; other-labels = step_other }
+lent = record { own_labels = agree; other_labels = step_other }

@@ -7,7 +7,7 @@ use lib.Dec.{eqb}
 use lib.ListN.{length, get_or}
 use borrow.Author.Tests.{eqb-true}
 use Rattle.basics.specs.Among.{among_first, among}
-use Rattle.basics.proofs.Picks.{when-back, unless-back}
+use Rattle.basics.proofs.Picks.{when_back, unless_back}
 use Rattle.basics.proofs.Any.{among_each}
 use Rattle.basics.proofs.Different.{different_few}
 use Rattle.pool.specs.declared.Pool.{Pool}
@@ -29,8 +29,8 @@ module _ (p : Pool) (ids : List ℕ) where
   entry_listed k h =
       let id = get_or ids k 0 in
       let a = first_both (id_check p id k) _ h in
-      let b = when-back (among_first ids k id) fine (refuse 10 k) _ never a.1 in
-      let c = unless-back (eqb (state_of p id) 1) fine (refuse 11 k) fine never b.1 in
+      let b = when_back (among_first ids k id) fine (refuse 10 k) _ never a.1 in
+      let c = unless_back (eqb (state_of p id) 1) fine (refuse 11 k) fine never b.1 in
       record { names = buffer p id k a.0; in_service = eqb-true _ _ c.0; first_named = b.0 }
 
   pub listed : (n : ℕ) → list_check p ids n ≡ fine → (k : ℕ) → k < n → Listed p ids k

@@ -28,13 +28,13 @@ after_both P fine p d f g = f refl
 after_both P (refuse n place) p d f g = g n place refl
 
 module _ (c : Check) (p : Pool) (d : Told) where
-  pub fine-says : c ≡ fine → (after_check c p d).answer ≡ d.answer
+  pub fine_says : c ≡ fine → (after_check c p d).answer ≡ d.answer
   unfolding after_check
-  fine-says e = rw e
+  fine_says e = rw e
 
-  pub refuse-says : {n place : ℕ} → c ≡ refuse n place → (after_check c p d).answer ≡ refused n place
+  pub refuse_says : {n place : ℕ} → c ≡ refuse n place → (after_check c p d).answer ≡ refused n place
   unfolding after_check
-  refuse-says e = rw e
+  refuse_says e = rw e
 
 -- ---- from the outcome to the check
 
@@ -44,11 +44,11 @@ said_accepted fine p q h = refl
 said_accepted (refuse n place) p q h = absurd (apart (cc))
 
 -- where what follows the check answers no refusal
-pub said-refused : (c : Check) (p : Pool) (d : Told) (n place : ℕ) → (d.answer ≡ refused n place → ⊥) → (after_check c p d).answer ≡ refused n place
+pub said_refused : (c : Check) (p : Pool) (d : Told) (n place : ℕ) → (d.answer ≡ refused n place → ⊥) → (after_check c p d).answer ≡ refused n place
     → c ≡ refuse n place
 unfolding after_check
-said-refused fine p d n place none h = absurd (none h)
-said-refused (refuse m at) p d n place none h = cc
+said_refused fine p d n place none h = absurd (none h)
+said_refused (refuse m at) p d n place none h = cc
 
 -- of two checks the second
 pub first_second : (a b : Check) (n place : ℕ) → (a ≡ refuse n place → ⊥) → first a b ≡ refuse n place → (a ≡ fine) × (b ≡ refuse n place)

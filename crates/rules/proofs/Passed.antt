@@ -110,8 +110,8 @@ module _ {p : Pool} where
   pub has_worker : {w : ℕ} → Named p (record { 0 = w }) → HasWorker p w
   has_worker a = record { sound = a.sound; some = a.some; most = a.most }
 
-  pub idle-worker : {w : ℕ} → Begun p (record { 0 = w }) → Idle p w
-  idle-worker a = record { worker = has_worker a.worker; label = a.idle }
+  pub idle_worker : {w : ℕ} → Begun p (record { 0 = w }) → Idle p w
+  idle_worker a = record { worker = has_worker a.worker; label = a.idle }
 
   pub employs : {w g : ℕ} → Employed p (record { 0 = w }) (record { 0 = g }) → Employs p w g
   employs a = record { below = a.guard_below; employer = a.employed }

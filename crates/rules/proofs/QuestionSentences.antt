@@ -114,7 +114,7 @@ pub question_sentences : QuestionSentences
 unfolding set_size_of size_of leaving_count_of audit_of
 question_sentences =
     record {
-      set-size = λ p w a. answers _ _ _ (worker_passes_lem p w a) refl;
+      set_size = λ p w a. answers _ _ _ (worker_passes_lem p w a) refl;
       leaving_count = λ p h. answers _ _ _ (sound_passes p h) refl;
       audit_clear = λ p. (
         λ h.
@@ -122,7 +122,7 @@ question_sentences =
             (sound_of_lem p a.0, λ id b. well_placed p id (clear_from p p.b 1 a.1 id b.some (omega (arith, b.most)))),
         λ c. answers _ _ _ (sound_passes p c.0) (from_clear p p.b 1 (λ j low high. right p j (c.1 j (record { some = low; most = omega arith })))),
       );
-      audit-fault = λ p id n. (
+      audit_fault = λ p id n. (
         λ h.
             let a = answered (sound_check p) _ (fault id n) (λ m place q. apart (cc)) h in
             let r = fault_from p p.b 1 id n a.1 in (

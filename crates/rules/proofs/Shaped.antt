@@ -8,7 +8,7 @@ use native.Mathlib.Omega.{arith}
 use lib.ListN.{length, get_or, set, replicate, get_or-replicate, length-set}
 use lib.Seq.{get_or-set_same, get_or-set_other}
 use Rattle.basics.proofs.Picks.{when_both, unless_both}
-use Rattle.basics.proofs.Table.{table-length}
+use Rattle.basics.proofs.Table.{table_length}
 use Rattle.idset.specs.declared.IdSet.{IdSet}
 use Rattle.idset.specs.Members.{set_of, no_ids, with_of}
 use Rattle.pool.specs.declared.Pool.{Pool}
@@ -47,17 +47,17 @@ replaced_words l k s long four own = record { words = λ j below. at j below (�
     at j below (no n) = rw (get_or-set_other l k j s (record { words = [] }) n) (four.words j below)
 
 -- each array: untouched, replaced at one entry, or a table of its length
-ruleset shapes = (set_long, table-length, replaced_words, set_words, none_words, with_words)
+ruleset shapes = (set_long, table_length, replaced_words, set_words, none_words, with_words)
 
 abbrev Keeps : Told → Type 0
 Keeps t = Shaped t.pool
 
-blank-words : FourWords (replicate 8 no_ids)
-blank-words = record { words = λ k below. ap (λ (s : IdSet). length s.words) (get_or-replicate 8 k no_ids (record { words = [] }) below) ∙ none_words }
+blank_words : FourWords (replicate 8 no_ids)
+blank_words = record { words = λ k below. ap (λ (s : IdSet). length s.words) (get_or-replicate 8 k no_ids (record { words = [] }) below) ∙ none_words }
 
 pub blank_shaped : (w g b : ℕ) → Shaped (blank w g b)
 blank_shaped w g b =
-    record { taken = refl; employers = refl; posted = refl; slot_ids = refl; slot_versions = refl; states = refl; workers = refl; sets = refl; marks = blank-words }
+    record { taken = refl; employers = refl; posted = refl; slot_ids = refl; slot_versions = refl; states = refl; workers = refl; sets = refl; marks = blank_words }
 
 pub made_shaped : MadeShaped
 unfolding make_of

@@ -15,16 +15,16 @@ use Rattle.pool.specs.Checks.{worker_of, worker_check}
 use Rattle.pool.specs.Steps.{stand_check, advance_check, handed, list_after_check, list_after}
 use Rattle.pool.proofs.Checked.{sound_passes}
 use Rattle.rules.specs.Calls.{Call, hiring, firing, posting, giving_up, taking, asking, advancing, call, list_of, after, Seen, seen}
-use Rattle.rules.proofs.CallsKept.{call-sound}
+use Rattle.rules.proofs.CallsKept.{call_sound}
 use Rattle.rules.proofs.Rests.{checked, does, rests}
 use Rattle.rules.proofs.Computing.{computing}
 
 unfoldable pub sound_call : Call → Pool → Told
 sound_call c p = after_check (checked c p) p (does c p)
 
-sound-call : (c : Call) (p : Pool) → sound_of p ≡ true → call c p ≡ sound_call c p
+sound_call_lem : (c : Call) (p : Pool) → sound_of p ≡ true → call c p ≡ sound_call c p
 unfolding sound_call first
-sound-call c p h = rests c p ∙ ap (λ (t : Check). after_check (first t (checked c p)) p (does c p)) (sound_passes p h)
+sound_call_lem c p h = rests c p ∙ ap (λ (t : Check). after_check (first t (checked c p)) p (does c p)) (sound_passes p h)
 
 sound_list : Call → Pool → List ℕ
 sound_list (hiring w) p = []
@@ -37,15 +37,15 @@ sound_list (advancing w out) p =
     let no : WorkerNo = record { 0 = w } in
     list_after_check (checked (advancing w out) p) out (when (eqb (worker_of p no).label 32) (handed (set_at p (w - 1)) out) out)
 
-sound-list : (c : Call) (p : Pool) → sound_of p ≡ true → list_of c p ≡ sound_list c p
+sound_list_lem : (c : Call) (p : Pool) → sound_of p ≡ true → list_of c p ≡ sound_list c p
 unfolding list_of list_after advance_check stand_check worker_check sound_list checked first
-sound-list (hiring w) p h = refl
-sound-list (firing w g) p h = refl
-sound-list (posting w g b) p h = refl
-sound-list (giving_up w ids) p h = refl
-sound-list (taking b) p h = refl
-sound-list (asking w b) p h = refl
-sound-list (advancing w out) p h = rw (sound_passes p h)
+sound_list_lem (hiring w) p h = refl
+sound_list_lem (firing w g) p h = refl
+sound_list_lem (posting w g b) p h = refl
+sound_list_lem (giving_up w ids) p h = refl
+sound_list_lem (taking b) p h = refl
+sound_list_lem (asking w b) p h = refl
+sound_list_lem (advancing w out) p h = rw (sound_passes p h)
 
 -- ---- runs
 
@@ -58,15 +58,15 @@ unfolding sound_list
 sound_seen [] p = []
 sound_seen (c ∷ cs) p = record { made = c; answer = (sound_call c p).answer; list = sound_list c p } ∷ sound_seen cs (sound_call c p).pool
 
-pub sound-after : (cs : List Call) (p : Pool) → sound_of p ≡ true → after cs p ≡ sound_after cs p
+pub sound_after_lem : (cs : List Call) (p : Pool) → sound_of p ≡ true → after cs p ≡ sound_after cs p
 unfolding after sound_after
-sound-after [] p h = refl
-sound-after (c ∷ cs) p h = sound-after cs (call c p).pool (call-sound c p h) ∙ ap (λ (t : Told). sound_after cs t.pool) (sound-call c p h)
+sound_after_lem [] p h = refl
+sound_after_lem (c ∷ cs) p h = sound_after_lem cs (call c p).pool (call_sound c p h) ∙ ap (λ (t : Told). sound_after cs t.pool) (sound_call_lem c p h)
 
-pub sound-seen : (cs : List Call) (p : Pool) → sound_of p ≡ true → seen cs p ≡ sound_seen cs p
+pub sound_seen_lem : (cs : List Call) (p : Pool) → sound_of p ≡ true → seen cs p ≡ sound_seen cs p
 unfolding seen sound_seen
-sound-seen [] p h = refl
-sound-seen (c ∷ cs) p h = rw (sound-seen cs (call c p).pool (call-sound c p h), sound-call c p h, sound-list c p h)
+sound_seen_lem [] p h = refl
+sound_seen_lem (c ∷ cs) p h = rw (sound_seen_lem cs (call c p).pool (call_sound c p h), sound_call_lem c p h, sound_list_lem c p h)
 
 -- what such a run computes by
 unfoldable pub running : Unit {0}

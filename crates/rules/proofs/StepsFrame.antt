@@ -21,17 +21,17 @@ use Rattle.pool.specs.Checks.{worker_of}
 use Rattle.pool.specs.Steps.{puts, ends, line2, line18, line28, freed, line_of, stand_check, advance_check, advance_of, list_after_check, list_after}
 use Rattle.pool.specs.ForProofs.Ready.{Stands}
 use Rattle.pool.proofs.Firsts.{first_both}
-use Rattle.pool.proofs.Standing.{stands, last-label}
+use Rattle.pool.proofs.Standing.{stands, last_label}
 use Rattle.rules.specs.Calls.{call, list_of}
 use Rattle.rules.specs.Frame.{Frame, AdvanceFrame}
 use Rattle.rules.proofs.Outcomes.{after_both}
 use Rattle.rules.proofs.EachLine.{by_line}
 
-slot-other : (p : Pool) (i : ℕ) (s : Slot) (j : ℕ) → (j ≡ i → ⊥) → slot_at (with_slot i s p) j ≡ slot_at p j
-slot-other p i s j other = rw (get_or-set_other p.slot_id i j s.id 0 other, get_or-set_other p.slot_version i j s.version 0 other)
+slot_other : (p : Pool) (i : ℕ) (s : Slot) (j : ℕ) → (j ≡ i → ⊥) → slot_at (with_slot i s p) j ≡ slot_at p j
+slot_other p i s j other = rw (get_or-set_other p.slot_id i j s.id 0 other, get_or-set_other p.slot_version i j s.version 0 other)
 
 -- each field of a frame: untouched, or replaced at one entry
-ruleset frames = (refl, get_or-set_other, slot-other)
+ruleset frames = (refl, get_or-set_other, slot_other)
 
 module _ (p : Pool) (k : ℕ) where
   abbrev Framed : Told → Type 0
@@ -40,9 +40,9 @@ module _ (p : Pool) (k : ℕ) where
   raised : (n m : ℕ) → (worker_at p k).label ≡ 5 → ((worker_at p k).label ≡ 5 → ⊥) → n ≡ m
   raised n m e other = absurd (other e)
 
-  state-other : (worker_at p k).label ≡ 32 → (id : ℕ) → 1 ≤ id → id ≤ 256 → ((worker_at p k).label ≡ 32 → member_of (set_at p k) id ≡ true → ⊥)
+  state_other : (worker_at p k).label ≡ 32 → (id : ℕ) → 1 ≤ id → id ≤ 256 → ((worker_at p k).label ≡ 32 → member_of (set_at p k) id ≡ true → ⊥)
       → get_or (freed (set_at p k) p) (id - 1) 0 ≡ state_of p id
-  state-other e id some most other =
+  state_other e id some most other =
       let back : suc (id - 1) ≡ id = omega arith in
       table_at 256 _ (id - 1) 0 (omega arith)
       ∙ ap (λ (id : ℕ). when (member_of (set_at p k) id) 0 (state_of p id)) back
@@ -69,7 +69,7 @@ module _ (p : Pool) (k : ℕ) where
         at25 = λ e. search frames;
         at28 = λ e. unless_both Framed _ _ _ (λ t. search frames) (λ t. search frames);
         at31 = λ e. search frames;
-        at32 = λ none. search (frames, state-other (last-label s none));
+        at32 = λ none. search (frames, state_other (last_label s none));
       })
 
 -- ---- the call
@@ -91,6 +91,6 @@ module _ (p : Pool) (w : WorkerNo) (out : List ℕ) where
   unfolding list_after
   list_framed other = list_same (advance_check p w (length out)) out _ (when_no _ out _ out (ne_eqb (worker_of p w).label 32 other) refl)
 
-pub advance-frame : AdvanceFrame
+pub advance_frame : AdvanceFrame
 unfolding call list_of
-advance-frame = record { record_framed = λ w out p. record_framed p _ out; list_framed = λ w out p. list_framed p _ out }
+advance_frame = record { record_framed = λ w out p. record_framed p _ out; list_framed = λ w out p. list_framed p _ out }

@@ -4,7 +4,7 @@ use Rattle.worker.specs.declared.Slot.{Slot}
 use Rattle.worker.specs.declared.Worker.{Worker}
 use Rattle.worker.specs.Registers.{no_worker, to, with_v, with_h, with_attempts}
 use Rattle.pool.specs.declared.Pool.{Pool}
-use Rattle.pool.specs.Answers.{Said, accepted, label, guard, None-found, posted, back}
+use Rattle.pool.specs.Answers.{Said, accepted, label, guard, none_found, posted, back}
 use Rattle.pool.specs.Record.{slot_at, worker_at, blank, with_taken, with_posted, with_slot, with_worker}
 use Rattle.rules.specs.Calls.{Call, hiring, posting, giving_up, taking, advancing, after, Seen, seen}
 
@@ -96,7 +96,7 @@ case3 =
       start = with_taken 0 true (blank 2 1 3);
       calls = hiring 1 ∷ advances 1 1;
       looked_at = 0;
-      expected = ended (accepted ∷ None-found ∷ []) lent 0 (slot_of 0 0);
+      expected = ended (accepted ∷ none_found ∷ []) lent 0 (slot_of 0 0);
     }
 
 unfoldable pub case4 : Case

@@ -15,5 +15,5 @@ pub record NotMade (w g b : ℕ) : Type 0 where
   pub unsound : sound_of (make_of w g b).pool ≡ false
 
 pub record MadeFresh : Type 0 where
-  pub in_range_lem : (w g b : ℕ) → in_range w g b ≡ true → Made w g b
+  pub made_in_range : (w g b : ℕ) → in_range w g b ≡ true → Made w g b
   pub out_of_range : (w g b : ℕ) → in_range w g b ≡ false → NotMade w g b

@@ -27,5 +27,5 @@ pub record Agree (p : Pool) (w : WorkerNo) (out : List ℕ) : Type 0 where
 
 -- at its seven labels the lent form is the advance, and at any other it changes nothing and says so
 pub record Lent : Type 0 where
-  pub own-labels : (p : Pool) (w : WorkerNo) (out : List ℕ) → sound_of p ≡ true → 1 ≤ w.0 → w.0 ≤ p.w → own (worker_of p w).label ≡ true → Agree p w out
-  pub other-labels : (x : Worker) (maxg posted : ℕ) (member : Bool) (slot : Slot) → own x.label ≡ false → step_of x maxg posted member slot ≡ stays x
+  pub own_labels : (p : Pool) (w : WorkerNo) (out : List ℕ) → sound_of p ≡ true → 1 ≤ w.0 → w.0 ≤ p.w → own (worker_of p w).label ≡ true → Agree p w out
+  pub other_labels : (x : Worker) (maxg posted : ℕ) (member : Bool) (slot : Slot) → own x.label ≡ false → step_of x maxg posted member slot ≡ stays x

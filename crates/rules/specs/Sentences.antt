@@ -78,7 +78,7 @@ pub record BeginSentences : Type 0 where
   pub hire : (p : Pool) (w : ℕ) → (answer (hiring w) p ≡ accepted) ↔ Idle p w
   -- a fire needs its own guard, which is posted on nothing; 8 where it is posted
   pub fire : (p : Pool) (w g : ℕ) → (answer (firing w g) p ≡ accepted) ↔ (Idle p w × Employs p w g × (posted_at p g ≡ 0))
-  pub fire-posted : (p : Pool) (w g : ℕ) → (answer (firing w g) p ≡ refused 8 0) ↔ (Idle p w × Employs p w g × (posted_at p g ≢ 0))
+  pub fire_posted : (p : Pool) (w g : ℕ) → (answer (firing w g) p ≡ refused 8 0) ↔ (Idle p w × Employs p w g × (posted_at p g ≢ 0))
   -- a post needs its own guard, and 0 or a buffer
   pub post : (p : Pool) (w g b : ℕ) → (answer (posting w g b) p ≡ accepted) ↔ (Idle p w × Employs p w g × (b ≤ p.b))
   -- a give-up needs every listed buffer in service, and none listed twice
@@ -87,7 +87,7 @@ pub record BeginSentences : Type 0 where
   -- a take needs a free buffer, which then is in service, the others as they were; 11 where it is not free
   pub take : (p : Pool) (b : ℕ) → (answer (taking b) p ≡ accepted) ↔ ((sound_of p ≡ true) × IsBuffer p b × (state_of p b ≡ 0))
   pub take_serves : (p : Pool) (b : ℕ) → Shaped p → answer (taking b) p ≡ accepted → state_of (call (taking b) p).pool b ≡ 1
-  pub take-others : (p : Pool) (b id : ℕ) → 1 ≤ id → id ≢ b → state_of (call (taking b) p).pool id ≡ state_of p id
+  pub take_others : (p : Pool) (b id : ℕ) → 1 ≤ id → id ≢ b → state_of (call (taking b) p).pool id ≡ state_of p id
   pub take_not_free : (p : Pool) (b : ℕ) → (answer (taking b) p ≡ refused 11 0) ↔ ((sound_of p ≡ true) × IsBuffer p b × (state_of p b ≢ 0))
   -- an ask is answered yes exactly when the buffer is in service, and otherwise no; nothing changes
   pub ask_yes : (p : Pool) (w b : ℕ) → (answer (asking w b) p ≡ yes) ↔ (Idle p w × IsBuffer p b × (state_of p b ≡ 1))
@@ -113,13 +113,13 @@ pub record AdvanceSentences : Type 0 where
 
 pub record QuestionSentences : Type 0 where
   -- a set's size is the number of its members
-  pub set-size : (p : Pool) (w : ℕ) → HasWorker p w → set_size_of p (record { 0 = w }) ≡ count (size p (w - 1))
+  pub set_size : (p : Pool) (w : ℕ) → HasWorker p w → set_size_of p (record { 0 = w }) ≡ count (size p (w - 1))
   -- the leaving count is the number of buffers that are leaving
   pub leaving_count : (p : Pool) → sound_of p ≡ true → leaving_count_of p ≡ count (count_below 256 (λ k. eqb (state_of p (suc k)) 2))
   -- the audit is clear exactly when every buffer is placed as it should be
   pub audit_clear : (p : Pool) → (audit_of p ≡ clear) ↔ ((sound_of p ≡ true) × ((id : ℕ) → IsBuffer p id → WellPlaced p id))
   -- and otherwise names the lowest that is not, with its number of places
-  pub audit-fault : (p : Pool) (id n : ℕ) → (audit_of p ≡ fault id n)
+  pub audit_fault : (p : Pool) (id n : ℕ) → (audit_of p ≡ fault id n)
       ↔ ((sound_of p ≡ true) × IsBuffer p id × (places_of p id ≡ n) × (WellPlaced p id → ⊥)
       × ((lower : ℕ) → 1 ≤ lower → lower < id → WellPlaced p lower))
 

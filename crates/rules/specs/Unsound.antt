@@ -107,6 +107,6 @@ pub record UnsoundSentences : Type 0 where
   pub one : (p : Pool) (n place m at : ℕ) → Breaks p n place → Breaks p m at → (n ≡ m) × (place ≡ at)
   -- every call passes it on, and so do the questions
   pub calls : (c : Call) (p : Pool) → Names p (call c p).answer
-  pub set-size : (p : Pool) (w : ℕ) → Names p (set_size_of p (record { 0 = w }))
+  pub set_size : (p : Pool) (w : ℕ) → Names p (set_size_of p (record { 0 = w }))
   pub leaving_count : (p : Pool) → Names p (leaving_count_of p)
   pub audit : (p : Pool) → Names p (audit_of p)

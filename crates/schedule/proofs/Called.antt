@@ -23,27 +23,27 @@ unfolding CallsAt
 calls_join s [] b p q = q
 calls_join s (at ∷ a) b p q = (p.0, p.1, calls_join s a b p.2 q)
 
-calls-copies : (s : List ℕ) (n : ℕ) (l : List ℕ) → CallsAt s l → CallsAt s (copies n l)
+calls_copies : (s : List ℕ) (n : ℕ) (l : List ℕ) → CallsAt s l → CallsAt s (copies n l)
 unfolding CallsAt copies
-calls-copies s zero l p = tt
-calls-copies s (suc n) l p = calls_join s l (copies n l) p (calls-copies s n l p)
+calls_copies s zero l p = tt
+calls_copies s (suc n) l p = calls_join s l (copies n l) p (calls_copies s n l p)
 
 no_calls : (s : List ℕ) → CallsAt s []
 unfolding CallsAt
 no_calls s = tt
 
-one-call : (s : List ℕ) (at : ℕ) → at ≤ length s → kind_of s at ≡ Call → CallsAt s (at ∷ [])
+one_call : (s : List ℕ) (at : ℕ) → at ≤ length s → kind_of s at ≡ Call → CallsAt s (at ∷ [])
 unfolding CallsAt
-one-call s at h e = (h, e, tt)
+one_call s at h e = (h, e, tt)
 
 abbrev Called : List ℕ → Block → Type 0
 Called s b = CallsAt s b.calls
 
 line_called : (s : List ℕ) (at d : ℕ) (k : Kind) (b : Block) → at ≤ length s → kind_of s at ≡ k → Called s b → Called s (line_with k b s at d)
-line_called s at d Call b h e p = one-call s at h e
+line_called s at d Call b h e p = one_call s at h e
 line_called s at d (Repeat n) b h e p =
     when_both (Called s) (eqb d 0) _ _ (λ _. no_calls s)
-    (λ _. when_both (Called s) (ltb b.next (length s)) _ _ (λ _. calls-copies s n b.calls p) (λ _. no_calls s))
+    (λ _. when_both (Called s) (ltb b.next (length s)) _ _ (λ _. calls_copies s n b.calls p) (λ _. no_calls s))
 line_called s at d Make b h e p = no_calls s
 line_called s at d End b h e p = no_calls s
 line_called s at d Wrong b h e p = no_calls s
@@ -100,21 +100,21 @@ Few TooLong = Unit {0}
 Few (BadLine n) = Unit {0}
 Few (Calls n) = n ≤ 100000
 
-few-told : (s : List ℕ) (x : Reading) → Reads s x → Few (answered x)
-few-told s too_long h = tt
-few-told s (bad_line n) h = tt
-few-told s (calls places) h = h.few
+few_told : (s : List ℕ) (x : Reading) → Reads s x → Few (answered x)
+few_told s too_long h = tt
+few_told s (bad_line n) h = tt
+few_told s (calls places) h = h.few
 
-filled-length : (x : Reading) (t : List ℕ) → length (filled x t) ≡ length t
-filled-length too_long t = refl
-filled-length (bad_line n) t = refl
-filled-length (calls places) t = write_length t 0 places
+filled_length : (x : Reading) (t : List ℕ) → length (filled x t) ≡ length t
+filled_length too_long t = refl
+filled_length (bad_line n) t = refl
+filled_length (calls places) t = write_length t 0 places
 
 -- n calls have their places in the table
-pub few-calls : (s t u : List ℕ) (n : ℕ) → Calls n ≡ answered (read_of s) → u ≡ filled (read_of s) t → length t ≡ 100000 → n ≤ length u
-few-calls s t u n e f h =
-    let few : n ≤ 100000 = subst Few (sym e) (few-told s (read_of s) (reads s)) in
-    omega (arith, few, ap length f, filled-length (read_of s) t, h)
+pub few_calls : (s t u : List ℕ) (n : ℕ) → Calls n ≡ answered (read_of s) → u ≡ filled (read_of s) t → length t ≡ 100000 → n ≤ length u
+few_calls s t u n e f h =
+    let few : n ≤ 100000 = subst Few (sym e) (few_told s (read_of s) (reads s)) in
+    omega (arith, few, ap length f, filled_length (read_of s) t, h)
 
 -- what the answer tells of the reading
 abbrev pub ReadAs : Reading → Read → Type 0

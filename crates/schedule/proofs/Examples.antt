@@ -16,7 +16,7 @@ examples =
       request = refl;
       nested = refl;
       nothing_repeated = refl;
-      no_ids_lem = refl;
+      no_ids = refl;
       no_text = refl;
       no_newline = refl;
       no_make = refl;
@@ -33,6 +33,6 @@ examples =
       end_too_many = refl;
       not_opened = refl;
       not_closed = refl;
-      too_deep_lem = refl;
+      too_deep = refl;
       too_deep_open = refl;
     }

@@ -17,11 +17,11 @@ use Rattle.grammar.specs.contracts.Kind as K
 use Rattle.grammar.proofs.Laws.{after_within}
 use Rattle.grammar.proofs.Lawful.{repeat_range}
 use Rattle.tables.specs.Write.{write_at, part_of, copies}
-use Rattle.tables.proofs.Left.{Left, left-first, left-room, left_on, left_done}
+use Rattle.tables.proofs.Left.{Left, left_first_lem, left_room, left_on, left_done}
 use Rattle.tables.proofs.Laws.{write_one, write_append, write_length, part_written, copies_length, some_le}
 use Rattle.schedule.specs.declared.Put.{Put}
 use Rattle.schedule.specs.Text.{Block, Ready, and_then, is_end, too_deep, line_with, block_at, line_at, put}
-use Rattle.schedule.proofs.Counts.{lower-back}
+use Rattle.schedule.proofs.Counts.{lower_back}
 use Rattle.schedule.proofs.Turns.{other}
 use Rattle.schedule.proofs.Blocks.{at_within, line_at_beyond, stopped, block_none, block_end, block_step}
 
@@ -31,18 +31,18 @@ pub record Going (s : List ℕ) (whole rest : Block) (t₀ t : List ℕ) (k to :
   pub ends : rest.next ≡ whole.next
   pub left : Left t₀ k whole.calls t to rest.calls
 
-same-put : {n u n' u' : ℕ} → n ≡ n' → u ≡ u' → ◌≡◌ {A = Put} (record { next = n; upto = u }) (record { next = n'; upto = u' })
-same-put p q = λ i. record { next = p i; upto = q i }
+same_put : {n u n' u' : ℕ} → n ≡ n' → u ≡ u' → ◌≡◌ {A = Put} (record { next = n; upto = u }) (record { next = n'; upto = u' })
+same_put p q = λ i. record { next = p i; upto = q i }
 
 pub going_first : (s : List ℕ) (b : Block) (t : List ℕ) (k : ℕ) → Ready s b t k → Going s b b t t k k
-going_first s b t k r = record { sound = r.sound; ends = refl; left = left-first t k b.calls }
+going_first s b t k r = record { sound = r.sound; ends = refl; left = left_first_lem t k b.calls }
 
 module _ (s : List ℕ) (i d : ℕ) (b : Block) (t₀ t : List ℕ) (k to : ℕ) (g : Going s b (block_at s i d) t₀ t k to) where
   going_last : block_at s i d ≡ stopped s i → (◌≡◌ {A = Put} (record { next = i; upto = to }) (put b k)) × (t ≡ write_at t₀ k b.calls)
   going_last e =
       let h : Going s b (stopped s i) t₀ t k to = subst (λ (x : Block). Going s b x t₀ t k to) e g in
       let d = left_done _ _ _ _ _ _ h.left refl in
-      (same-put h.ends d.0, d.1)
+      (same_put h.ends d.0, d.1)
 
   pub going_none : length s ≤ i → (◌≡◌ {A = Put} (record { next = i; upto = to }) (put b k)) × (t ≡ write_at t₀ k b.calls)
   going_none l = going_last (block_none s i d l)
@@ -58,14 +58,14 @@ module _ (s : List ℕ) (i d : ℕ) (b : Block) (t₀ t : List ℕ) (k to : ℕ)
       faults : ((line_at s i d).fault ≡ length s) × ((block_at s (line_at s i d).next d).fault ≡ length s)
       faults =
           let o = line_at_beyond s i d l in
-          lower-back (line_at s i d).fault (block_at s (line_at s i d).next d).fault (length s) split.sound o.2 (at_within s (line_at s i d).next d o.1).2
+          lower_back (line_at s i d).fault (block_at s (line_at s i d).next d).fault (length s) split.sound o.2 (at_within s (line_at s i d).next d o.1).2
 
       pub going_ready : length s ≤ 16384 → k + length b.calls ≤ length t₀ → Ready s (line_at s i d) t to
       going_ready w room =
           record {
             short = w;
             sound = faults.0;
-            room = left-room _ _ _ _ _ _ split.left (line_at s i d).calls (block_at s (line_at s i d).next d).calls refl room;
+            room = left_room _ _ _ _ _ _ split.left (line_at s i d).calls (block_at s (line_at s i d).next d).calls refl room;
           }
 
       pub going_on : (u : List ℕ) (x : Put) → x ≡ put (line_at s i d) to → u ≡ write_at t to (line_at s i d).calls → Going s b (block_at s x.next d) t₀ u k x.upto
@@ -93,11 +93,11 @@ module _ (s : List ℕ) (at d : ℕ) (t : List ℕ) (k : ℕ) (kd : Kind) (n : �
   unfolding line_at
   by_kind m e = rw (← p, e)
 
-  pub call-room : kd ≡ Call → k < length t
-  call-room e = let r : k + 1 ≤ length t = rw (by_kind Call e) at ready.room in omega arith
+  pub call_room : kd ≡ Call → k < length t
+  call_room e = let r : k + 1 ≤ length t = rw (by_kind Call e) at ready.room in omega arith
 
-  pub put-call : kd ≡ Call → (◌≡◌ {A = Put} (record { next = n; upto = k + 1 }) (put (line_at s at d) k)) × (set t k at ≡ write_at t k (line_at s at d).calls)
-  put-call e = rw (by_kind Call e) (same-put q refl, sym (write_one t k at))
+  pub put_call : kd ≡ Call → (◌≡◌ {A = Put} (record { next = n; upto = k + 1 }) (put (line_at s at d) k)) × (set t k at ≡ write_at t k (line_at s at d).calls)
+  put_call e = rw (by_kind Call e) (same_put q refl, sym (write_one t k at))
 
   pub put_other : OneOf (0 ∷ 3 ∷ 4 ∷ []) (tag_of K.the_type kd) → {P : Type 0} → P
   put_other h = absurd (omega (arith, ready.sound, ap (λ (x : Block). x.fault) (by_kind kd refl ∙ other kd _ s at d h)))
@@ -160,6 +160,6 @@ module _ (s : List ℕ) (at d : ℕ) (t : List ℕ) (k : ℕ) (kd : Kind) (n : �
           let kept : part_of u k (length c) ≡ c = rw w (part_written t k c (omega (arith, inner_ready.room))) in
           let same : line_at s at d ≡ record { next = after_of s (block_at s n (d - 1)).next; fault = (block_at s n (d - 1)).fault; calls = copies m (block_at s n (d - 1)).calls } = rw q as_shut in
           rw same (
-            same-put (f ∙ ap (λ (z : Put). after_of s z.next) a) (g ∙ (ap (λ (z : ℕ). k + m * z) once ∙ ap (λ (z : ℕ). k + z) (sym (copies_length m c)))),
+            same_put (f ∙ ap (λ (z : Put). after_of s z.next) a) (g ∙ (ap (λ (z : ℕ). k + m * z) once ∙ ap (λ (z : ℕ). k + z) (sym (copies_length m c)))),
             h ∙ (rw (once, kept, w, whole) (sym (write_append t k c (copies (m - 1) c)))),
           )

@@ -19,7 +19,7 @@ use Rattle.grammar.proofs.Lawful.{repeat_range}
 use Rattle.tables.proofs.Laws.{copies_length}
 use Rattle.schedule.specs.declared.Got.{Got}
 use Rattle.schedule.specs.Text.{Block, lower, is_end, end_of, single, line_with, block_at, line_at, cap, tell}
-use Rattle.schedule.proofs.Counts.{lower-first, lower_second, lower_within, lower_assoc, cap_small, cap_le, cap-left, cap_right, cap_times}
+use Rattle.schedule.proofs.Counts.{lower_first, lower_second, lower_within, lower_assoc, cap_small, cap_le, cap_left, cap_right, cap_times}
 use Rattle.schedule.proofs.Seek.{end_of_within}
 use Rattle.schedule.proofs.Blocks.{at_within, line_at_beyond, stopped, block_none, block_end, block_step}
 
@@ -32,7 +32,7 @@ joined f c g = record { next = g.next; fault = lower f g.fault; calls = cap (c +
 
 counts : (c a b n : ℕ) → n ≡ a + b → cap (cap (c + cap a) + cap b) ≡ cap (c + cap n)
 counts c a b n e =
-    cap-left (c + cap a) (cap b) ∙ (cap_right (c + cap a) b
+    cap_left (c + cap a) (cap b) ∙ (cap_right (c + cap a) b
     ∙ (ap cap (reorder c (cap a) b) ∙ (cap_right (c + b) a ∙ (ap cap (last c a b n e) ∙ sym (cap_right c n)))))
   where
     reorder : (c a b : ℕ) → c + a + b ≡ c + b + a
@@ -48,10 +48,10 @@ module _ (s : List ℕ) (i d : ℕ) where
       (cap_right 0 (length (block_at s i d).calls) ∙ ap cap (zero-add (length (block_at s i d).calls)))
 
   turn_last : (f c : ℕ) (b : Got) → block_at s i d ≡ stopped s i → f ≤ length s → c ≤ 100001 → joined f c (tell (block_at s i d)) ≡ b → ◌≡◌ {A = Got} (record { next = i; fault = f; calls = c }) b
-  turn_last f c b e w v h = same_got refl (sym (lower-first f (length s) w)) (sym (calls-kept c v)) ∙ (ap (λ (x : Block). joined f c (tell x)) (sym e) ∙ h)
+  turn_last f c b e w v h = same_got refl (sym (lower_first f (length s) w)) (sym (calls_kept c v)) ∙ (ap (λ (x : Block). joined f c (tell x)) (sym e) ∙ h)
     where
-      calls-kept : (c : ℕ) → c ≤ 100001 → cap (c + cap 0) ≡ c
-      calls-kept c v = cap_right c 0 ∙ (ap cap (plus_none c) ∙ cap_small c v)
+      calls_kept : (c : ℕ) → c ≤ 100001 → cap (c + cap 0) ≡ c
+      calls_kept c v = cap_right c 0 ∙ (ap cap (plus_none c) ∙ cap_small c v)
         where
           plus_none : (c : ℕ) → c + 0 ≡ c
           plus_none c = omega arith
@@ -86,13 +86,13 @@ module _ (s : List ℕ) (at d : ℕ) (k : Kind) (n : ℕ) (p : k ≡ kind_of s a
   abbrev inner : Block
   inner = block_at s (after_of s at) (d - 1)
 
-  pub said-call : k ≡ Call → ◌≡◌ {A = Got} (record { next = n; fault = length s; calls = 1 }) (tell (line_at s at d))
+  pub said_call : k ≡ Call → ◌≡◌ {A = Got} (record { next = n; fault = length s; calls = 1 }) (tell (line_at s at d))
   unfolding line_at
-  said-call e = rw (← p, e) (same_got q refl (sym (cap_small 1 (omega arith))))
+  said_call e = rw (← p, e) (same_got q refl (sym (cap_small 1 (omega arith))))
 
-  pub said-other : OneOf (0 ∷ 3 ∷ 4 ∷ []) (tag_of K.the_type k) → ◌≡◌ {A = Got} (record { next = n; fault = at; calls = 0 }) (tell (line_at s at d))
+  pub said_other : OneOf (0 ∷ 3 ∷ 4 ∷ []) (tag_of K.the_type k) → ◌≡◌ {A = Got} (record { next = n; fault = at; calls = 0 }) (tell (line_at s at d))
   unfolding line_at
-  said-other h = rw (← p, other k inner s at d h) (same_got q refl (sym (cap_small 0 (omega arith))))
+  said_other h = rw (← p, other k inner s at d h) (same_got q refl (sym (cap_small 0 (omega arith))))
 
   pub said_deep : (m e j : ℕ) → k ≡ Repeat m → d ≡ 0 → e ≡ end_of s n 0 → j ≡ after_of s e → ◌≡◌ {A = Got} (record { next = j; fault = at; calls = 0 }) (tell (line_at s at d))
   unfolding line_at when
@@ -102,9 +102,9 @@ module _ (s : List ℕ) (at d : ℕ) (k : Kind) (n : ℕ) (p : k ≡ kind_of s a
     at_inner : g ≡ tell inner
     at_inner = u ∙ ap (λ (x : ℕ). tell (block_at s x (d - 1))) q
 
-    pub said-closed : (j c : ℕ) → g.next < length s → j ≡ after_of s g.next → c ≡ cap (m * g.calls) → ◌≡◌ {A = Got} (record { next = j; fault = g.fault; calls = c }) (tell (line_at s at d))
+    pub said_closed : (j c : ℕ) → g.next < length s → j ≡ after_of s g.next → c ≡ cap (m * g.calls) → ◌≡◌ {A = Got} (record { next = j; fault = g.fault; calls = c }) (tell (line_at s at d))
     unfolding line_at when
-    said-closed j c l v w =
+    said_closed j c l v w =
         rw (← p, r, ne_eqb d 0 z, lt-ltb inner.next (length s) (subst (λ (x : Got). x.next < length s) at_inner l))
         (same_got (v ∙ ap (λ (x : Got). after_of s x.next) at_inner) (ap (λ (x : Got). x.fault) at_inner)
         (w ∙ (ap (λ (x : Got). cap (m * x.calls)) at_inner ∙ (cap_times m (length inner.calls) ∙ ap cap (sym (copies_length m inner.calls))))))

@@ -8,7 +8,7 @@ pub record Examples : Type 0 where
   pub request : read_of (bytes "make 1 1 1\nhire 1\nrepeat 3\nstep 1\nend\n") ≡ calls (0 ∷ 11 ∷ 27 ∷ 27 ∷ 27 ∷ [])
   pub nested : read_of (bytes "make 1 1 1\nrepeat 2\nrepeat 2\nstep 1\nend\ntake 1\nend\n") ≡ calls (0 ∷ 29 ∷ 29 ∷ 40 ∷ 29 ∷ 29 ∷ 40 ∷ [])
   pub nothing_repeated : read_of (bytes "make 1 1 1\nrepeat 3\nend\n") ≡ calls (0 ∷ [])
-  pub no_ids_lem : read_of (bytes "make 1 1 1\ngive 1\n") ≡ calls (0 ∷ 11 ∷ [])
+  pub no_ids : read_of (bytes "make 1 1 1\ngive 1\n") ≡ calls (0 ∷ 11 ∷ [])
   pub no_text : read_of [] ≡ bad_line 1
   pub no_newline : read_of (bytes "make 1 1 1\nstep 1") ≡ bad_line 2
   pub no_make : read_of (bytes "hire 1\nmake 1 1 1\n") ≡ bad_line 1
@@ -28,5 +28,5 @@ pub record Examples : Type 0 where
   pub not_opened : read_of (bytes "make 1 1 1\nrepeat 2\nrepeat 01\nend\nend\n") ≡ bad_line 3
   pub not_closed : read_of (bytes "make 1 1 1\nrepeat 2\nend 1\n") ≡ bad_line 2
   -- the fifth `repeat` in each other is at fault, and takes its `end`: with four, the outermost is left open
-  pub too_deep_lem : read_of (bytes "make 1 1 1\nrepeat 1\nrepeat 1\nrepeat 1\nrepeat 1\nrepeat 1\nend\nend\nend\nend\nend\n") ≡ bad_line 6
+  pub too_deep : read_of (bytes "make 1 1 1\nrepeat 1\nrepeat 1\nrepeat 1\nrepeat 1\nrepeat 1\nend\nend\nend\nend\nend\n") ≡ bad_line 6
   pub too_deep_open : read_of (bytes "make 1 1 1\nrepeat 1\nrepeat 1\nrepeat 1\nrepeat 1\nrepeat 1\nend\nend\nend\nend\n") ≡ bad_line 2

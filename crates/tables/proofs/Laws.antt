@@ -8,7 +8,7 @@ use mathlib.Core.List.{List, [], ◌∷◌, ◌++◌, append-nil, append_assoc}
 use lib.ListN.{length, get_or, set, take, drop, take-append-drop, length-set, length-append}
 use lib.Seq.{get_or-set_same, get_or-set_other, take-suc-set, drop-set-lt}
 use Rattle.basics.specs.Below.{table}
-use Rattle.basics.proofs.Table.{table-length, table_is, table_cong}
+use Rattle.basics.proofs.Table.{table_length, table_is, table_cong}
 use Rattle.tables.specs.Write.{write_at, part_of, copies}
 
 pub write_none : (t : List ℕ) (k : ℕ) → write_at t k [] ≡ t
@@ -55,7 +55,7 @@ part_kept t k m to l h = table_cong m (λ j. get_or (write_at t to l) (k + j) 0)
 
 pub part_length : (t : List ℕ) (k m : ℕ) → length (part_of t k m) ≡ m
 unfolding part_of
-part_length t k m = table-length m (λ j. get_or t (k + j) 0)
+part_length t k m = table_length m (λ j. get_or t (k + j) 0)
 
 -- a turn of the loop that copies a part
 pub copy_first : (t : List ℕ) (from to : ℕ) → t ≡ write_at t to (part_of t from 0)
@@ -65,7 +65,7 @@ copy_first t from to = refl
 pub copy_on : (t w : List ℕ) (from to m j : ℕ) → from + m ≤ to → j < m → w ≡ write_at t to (part_of t from j) → set w (to + j) (get_or w (from + j) 0) ≡ write_at t to (part_of t from (j + 1))
 unfolding part_of table
 copy_on t w from to m j h l e =
-    rw (add-one, e, write_below t to (table j (λ i. get_or t (from + i) 0)) (from + j) (omega arith), write_append t to (table j (λ i. get_or t (from + i) 0)) (get_or t (from + j) 0 ∷ []), table-length j (λ i. get_or t (from + i) 0))
+    rw (add-one, e, write_below t to (table j (λ i. get_or t (from + i) 0)) (from + j) (omega arith), write_append t to (table j (λ i. get_or t (from + i) 0)) (get_or t (from + j) 0 ∷ []), table_length j (λ i. get_or t (from + i) 0))
     (sym (write_one (write_at t to (table j (λ i. get_or t (from + i) 0))) (to + j) (get_or t (from + j) 0)))
 
 pub copies_none : (n : ℕ) → copies n [] ≡ []
@@ -73,10 +73,10 @@ unfolding copies
 copies_none zero = refl
 copies_none (suc n) = copies_none n
 
-pub copies-last : (n : ℕ) (l : List ℕ) → copies (suc n) l ≡ copies n l ++ l
+pub copies_last : (n : ℕ) (l : List ℕ) → copies (suc n) l ≡ copies n l ++ l
 unfolding copies
-copies-last zero l = append-nil l
-copies-last (suc n) l = ap (λ (r : List ℕ). l ++ r) (copies-last n l) ∙ sym (append_assoc l (copies n l) l)
+copies_last zero l = append-nil l
+copies_last (suc n) l = ap (λ (r : List ℕ). l ++ r) (copies_last n l) ∙ sym (append_assoc l (copies n l) l)
 
 pub copies_length : (n : ℕ) (l : List ℕ) → length (copies n l) ≡ n * length l
 unfolding copies
@@ -93,8 +93,8 @@ some_le m n h = omega (arith, mul-le-mul_right m h, suc-mul 0 m, zero-mul m)
 pub more_le : (m r n : ℕ) → r < n → r * m + m ≤ n * m
 more_le m r n h = omega (arith, mul-le-mul_right {m = suc r} {n = n} m (omega arith), suc-mul r m)
 
-pub next-to : (from m r to : ℕ) → to ≡ from + r * m → to + m ≡ from + (r + 1) * m
-next-to from m r to h = omega (arith, suc-mul r m, ap (λ (k : ℕ). k * m) (add-one r))
+pub next_to : (from m r to : ℕ) → to ≡ from + r * m → to + m ≡ from + (r + 1) * m
+next_to from m r to h = omega (arith, suc-mul r m, ap (λ (k : ℕ). k * m) (add-one r))
 
 pub first_to : (from m : ℕ) → from + m ≡ from + 1 * m
 first_to from m = omega (arith, suc-mul 0 m, zero-mul m)
@@ -113,7 +113,7 @@ repeat_on t w u from m (suc r) to h e p q =
     let p' : w ≡ write_at t (from + m) (copies r P) = rw a at p in
     let s : part_of w from m ≡ P = rw p' (part_kept t from m (from + m) (copies r P) (omega arith)) in
     let z : to ≡ from + m + length (copies r P) = omega (arith, e, copies_length r P, ap (λ (k : ℕ). r * k) (part_length t from m), suc-mul r m) in
-    q ∙ (rw (s, z, p', b, copies-last r P) (sym (write_append t (from + m) (copies r P) P)))
+    q ∙ (rw (s, z, p', b, copies_last r P) (sym (write_append t (from + m) (copies r P) P)))
 
 pub repeat_none : (t : List ℕ) (from m n : ℕ) → m ≡ 0 → t ≡ write_at t (from + m) (copies (n - 1) (part_of t from m))
 unfolding part_of table write_at

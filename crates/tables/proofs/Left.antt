@@ -17,12 +17,12 @@ pub record Left (t₀ : List ℕ) (k₀ : ℕ) (l₀ t : List ℕ) (k : ℕ) (l 
   pub wide : length t ≡ length t₀
   pub bytes : write_at t k l ≡ write_at t₀ k₀ l₀
 
-pub left-first : (t : List ℕ) (k : ℕ) (l : List ℕ) → Left t k l t k l
-left-first t k l = record { place = refl; wide = refl; bytes = refl }
+pub left_first_lem : (t : List ℕ) (k : ℕ) (l : List ℕ) → Left t k l t k l
+left_first_lem t k l = record { place = refl; wide = refl; bytes = refl }
 
 module _ (t₀ : List ℕ) (k₀ : ℕ) (l₀ t : List ℕ) (k : ℕ) (l : List ℕ) (h : Left t₀ k₀ l₀ t k l) where
-  pub left-room : (a b : List ℕ) → l ≡ a ++ b → k₀ + length l₀ ≤ length t₀ → k + length a ≤ length t
-  left-room a b e r = omega (arith, h.place, h.wide, ap length e, length-append a b)
+  pub left_room : (a b : List ℕ) → l ≡ a ++ b → k₀ + length l₀ ≤ length t₀ → k + length a ≤ length t
+  left_room a b e r = omega (arith, h.place, h.wide, ap length e, length-append a b)
 
   pub left_on : (a b w : List ℕ) (r : ℕ) → l ≡ a ++ b → r ≡ k + length a → w ≡ write_at t k a → Left t₀ k₀ l₀ w r b
   left_on a b w r e p q = record {

@@ -1,5 +1,5 @@
 // Standard input, line by line, out of a lent buffer.
-ghost use Rattle.std.specs.Prelude.{◌≡◌, ◌≤◌, ◌⊎◌, length, IfOk};
+ghost use Rattle.std.specs.Prelude.{◌≡◌, ◌≤◌, ◌⊎◌, length};
 
 use std::io;
 
@@ -40,60 +40,57 @@ fn to_front(buffer: &mut [u8], from: usize, filled: usize) -> usize {
     to
 }
 
-// Reads once behind what is filled, and answers how far it is filled then.
-fn read_more<R: io::Read>(input: &mut R, buffer: &mut [u8], filled: usize) -> io::Result<usize> {
+// Reads once behind what is filled, and answers how far it is filled then. Input that cannot be read counts as ended.
+fn read_more<R: io::Read>(input: &mut R, buffer: &mut [u8], filled: usize) -> usize {
     if buffer.len() <= filled {
-        return Ok(filled);
+        return filled;
     }
-    let got = input.read(&mut buffer[filled..])?;
-    Ok(filled + got)
+    match input.read(&mut buffer[filled..]) {
+        Ok(got) => filled + got,
+        Err(_) => filled,
+    }
 }
 
 // The line that begins at a place. Where the buffer has no more than its beginning, that is moved to the front and more is read.
-pub fn next_line<R: io::Read>(
-    input: &mut R,
-    buffer: &mut [u8],
-    from: usize,
-    filled: usize,
-) -> io::Result<Line>
-    ensures { IfOk result (λ line. (line.from ≤ line.to) × (line.to ≤ length buffer.new)) }
+pub fn next_line<R: io::Read>(input: &mut R, buffer: &mut [u8], from: usize, filled: usize) -> Line
+    ensures { (result.from ≤ result.to) × (result.to ≤ length buffer.new) }
 {
     let to = feed_from(buffer, from, filled);
     if to < filled {
-        return Ok(Line {
+        return Line {
             found: true,
             from: from,
             to: to,
             filled: filled,
-        });
+        };
     }
     let mut end = to_front(buffer, from, filled);
     loop {
-        let more = read_more(input, buffer, end)?;
+        let more = read_more(input, buffer, end);
         if buffer.len() < more {
-            return Ok(Line {
+            return Line {
                 found: false,
                 from: 0,
                 to: 0,
                 filled: more,
-            });
+            };
         }
         if more <= end {
-            return Ok(Line {
+            return Line {
                 found: false,
                 from: 0,
                 to: 0,
                 filled: end,
-            });
+            };
         }
         let to = feed_from(buffer, end, more);
         if to < more {
-            return Ok(Line {
+            return Line {
                 found: true,
                 from: 0,
                 to: to,
                 filled: more,
-            });
+            };
         }
         end = more;
     }

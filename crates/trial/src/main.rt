@@ -159,30 +159,30 @@ impl Bench {
     }
 
     // Writes the results out where less than half the buffer is left.
-    fn with_room(mut self, rt: &impl Print, out: &[u8]) -> io::Result<Bench> {
+    fn with_room(mut self, rt: &impl Print, out: &[u8]) -> Bench {
         if self.written <= HALF {
-            return Ok(self);
+            return self;
         }
-        let whole = flush(rt, out, self.written)?;
+        let whole = flush(rt, out, self.written);
         self.going = whole;
         self.lost = !whole;
         self.written = 0;
-        Ok(self)
+        self
     }
 
     // Writes the last results out, and the line that says how the input ended. After lost results there is none, so whoever reads it knows
     // that all before it is there.
-    fn end(self, rt: &impl Print, lines: u64, out: &mut [u8]) -> io::Result<()> {
+    fn end(self, rt: &impl Print, lines: u64, out: &mut [u8]) {
         if self.lost {
-            return Ok(());
+            return;
         }
-        let to = if self.understood {
-            put_end(out, self.written, b"calls", self.calls, b"\n")
+        if self.understood {
+            let to = put_end(out, self.written, b"calls", self.calls, b"\n");
+            flush(rt, out, to);
         } else {
-            put_end(out, self.written, b"line", lines, b" not understood\n")
-        };
-        flush(rt, out, to)?;
-        Ok(())
+            let to = put_end(out, self.written, b"line", lines, b" not understood\n");
+            flush(rt, out, to);
+        }
     }
 
     // The next line of the input. Where the input ends, nothing may be left of a line without its end.
@@ -194,22 +194,22 @@ impl Bench {
         numbers: &mut [u32],
         list: &mut [u32],
         out: &mut [u8],
-    ) -> io::Result<Bench> {
-        let line = next_line(source, input, self.at, self.filled)?;
+    ) -> Bench {
+        let line = next_line(source, input, self.at, self.filled);
         let from = line.from;
         let to = line.to;
         if !line.found {
             self.going = false;
             self.understood = line.filled == 0;
-            return Ok(self);
+            return self;
         }
         self.at = to + 1;
         self.filled = line.filled;
-        let ready = self.with_room(rt, out)?;
+        let ready = self.with_room(rt, out);
         if ready.lost {
-            return Ok(ready);
+            return ready;
         }
-        Ok(ready.line(&input[from..to], numbers, list, out))
+        ready.line(&input[from..to], numbers, list, out)
     }
 }
 
@@ -221,20 +221,19 @@ fn all_lines<R: io::Read>(
     numbers: &mut [u32],
     list: &mut [u32],
     out: &mut [u8],
-) -> io::Result<()> {
+) {
     let mut bench = Bench::new();
     let mut lines: u64 = 0;
     while lines < MOST_LINES {
         if !bench.going {
             return bench.end(rt, lines, out);
         }
-        bench = bench.next(rt, source, input, numbers, list, out)?;
+        bench = bench.next(rt, source, input, numbers, list, out);
         lines += 1;
     }
-    Ok(())
 }
 
-fn main(rt: HostRuntime) -> io::Result<()> {
+fn main(rt: HostRuntime) {
     let mut input = [0u8; 65536];
     let mut out = [0u8; 65536];
     let mut numbers = [0u32; 600];
@@ -247,5 +246,5 @@ fn main(rt: HostRuntime) -> io::Result<()> {
         &mut numbers,
         &mut list,
         &mut out,
-    )
+    );
 }

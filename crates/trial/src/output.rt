@@ -204,10 +204,12 @@ pub fn put_end(out: &mut [u8], at: usize, word: &[u8], n: u64, rest: &[u8]) -> u
 }
 
 // Writes what the buffer has up to a place, and answers whether all of it was written.
-pub fn flush(rt: &impl Print, out: &[u8], at: usize) -> std::io::Result<bool> {
+pub fn flush(rt: &impl Print, out: &[u8], at: usize) -> bool {
     if out.len() < at {
-        return Ok(false);
+        return false;
     }
-    rt.write_all(&out[..at])?;
-    Ok(true)
+    match rt.write_all(&out[..at]) {
+        Ok(_) => true,
+        Err(_) => false,
+    }
 }

@@ -1,6 +1,6 @@
 -- The trailing zeros of what is left after the shift.
 use Rattle.std.proofs.Common.{rules}
-use Rattle.idset.proofs.Marks.{next_past, next_none, next-some}
+use Rattle.idset.proofs.Marks.{next_past, next_none, next_some}
 use Rattle.idset.proofs.next_mark.Goals as goal
 
 pub returns-then-from-ge64 : goal.returns-then-from-ge64
@@ -10,4 +10,4 @@ pub returns-then-rest-eq0 : goal.returns-then-rest-eq0
 returns-then-rest-eq0 c = next_none c.args.word c.args.from c.if-rest-eq0.true
 
 pub returns : goal.returns
-returns c = next-some c.args.word c.args.from (search rules) c.if-rest-eq0.false
+returns c = next_some c.args.word c.args.from (search rules) c.if-rest-eq0.false

@@ -1,11 +1,11 @@
 -- `put_read` meets its contract: each arm has its words.
 use Rattle.std.proofs.Common.{refl, sym, arith}
 use Rattle.tables.proofs.Laws.{write_none}
-use Rattle.player.proofs.Judged.{number-room, line_room, judged_whole, judged_bad}
+use Rattle.player.proofs.Judged.{number_room, line_room, judged_whole, judged_bad}
 use Rattle.player.proofs.put_read.Goals as goal
 
 pub put_number-to-requires : goal.put_number-to-requires
-put_number-to-requires c = number-room _ _ _ (omega (arith, c.put_bytes-from.ensures.value)) (omega arith)
+put_number-to-requires c = number_room _ _ _ (omega (arith, c.put_bytes-from.ensures.value)) (omega arith)
 
 pub put_bytes-requires-in-BadLine : goal.put_bytes-requires-in-BadLine
 put_bytes-requires-in-BadLine c = line_room _ _ _ _ c.put_bytes-from.ensures.value c.put_number-to.ensures.value (omega arith)

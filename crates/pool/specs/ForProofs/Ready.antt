@@ -7,12 +7,12 @@ use Rattle.pool.specs.Steps.{i_of}
 
 -- at any label but 12 and 32: the worker stands at a guard
 pub record Ready (p : Pool) (k : ℕ) : Type 0 where
-  pub k-below : k < 8
+  pub k_below : k < 8
   pub i_below : i_of p k < 32
   pub attempts_most : (worker_at p k).attempts ≤ 3
 
 -- a worker of a sound record that is not idle
 pub record Stands (p : Pool) (k : ℕ) : Type 0 where
   pub sound : sound_of p ≡ true
-  pub k-below : k < p.w
+  pub k_below : k < p.w
   pub busy : (worker_at p k).label ≡ 0 → ⊥

@@ -2,7 +2,7 @@
 use Rattle.std.proofs.Common.{rules}
 use Rattle.std.proofs.Math.ListN.{length-set}
 use Rattle.printed.specs.Printed.{spaced}
-use Rattle.printed.proofs.Laws.{spaced-put}
+use Rattle.printed.proofs.Laws.{spaced_put}
 use Rattle.printed.proofs.put_spaced.Goals as goal
 
 pub bounds-out-at : goal.bounds-out-at
@@ -15,5 +15,5 @@ put_number-requires c = simp length-set (search rules)
 
 pub returns : goal.returns
 returns c =
-    let w = spaced-put c.args.out.now _ c.args.at c.args.n _ c.put_number.ensures.value c.put_number.ensures.out_after in
+    let w = spaced_put c.args.out.now _ c.args.at c.args.n _ c.put_number.ensures.value c.put_number.ensures.out_after in
     record { value = w.0; out_after = w.1 }

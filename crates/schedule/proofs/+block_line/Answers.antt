@@ -1,6 +1,6 @@
 -- The block reader and the line reader meet their contracts: what was read of a block and what is left of it make the whole, and a line is read by its kind.
 use Rattle.std.proofs.Common.{refl, rules, arith}
-use Rattle.schedule.proofs.Turns.{turn_first, turn_none, turn_end, turn_on, turn_within, said-call, said-other, said_deep, said-closed, said_open, product, after_in, end_in, fault_in, calls_in_lem}
+use Rattle.schedule.proofs.Turns.{turn_first, turn_none, turn_end, turn_on, turn_within, said_call, said_other, said_deep, said_closed, said_open, product, after_in, end_in, fault_in, calls_in_lem}
 use Rattle.schedule.proofs.Arms.{neither}
 use Rattle.schedule.proofs.Falls.{block_falls}
 use Rattle.schedule.proofs.+block_line.Goals as goal
@@ -61,15 +61,15 @@ line-overflow_mul-n t c =
     omega arith
 
 pub line-returns-in-Call : goal.line-returns-in-Call
-line-returns-in-Call t c = said-call _ _ _ _ c.after-next.result c.in-Call.ensures c.after-next.ensures refl
+line-returns-in-Call t c = said_call _ _ _ _ c.after-next.result c.in-Call.ensures c.after-next.ensures refl
 
 pub line-returns-then-end-s : goal.line-returns-then-end-s
 line-returns-then-end-s t c =
-    said-closed _ _ _ _ c.after-next.result c.in-Repeat.ensures c.after-next.ensures _ c.block-g.result refl c.if-depth-eq0.false c.block-g.ensures _ _ c.if-end-s.true c.after-then-end-s.ensures c.capped.ensures
+    said_closed _ _ _ _ c.after-next.result c.in-Repeat.ensures c.after-next.ensures _ c.block-g.result refl c.if-depth-eq0.false c.block-g.ensures _ _ c.if-end-s.true c.after-then-end-s.ensures c.capped.ensures
 
 pub line-returns-else-end-s : goal.line-returns-else-end-s
 line-returns-else-end-s t c =
     said_open _ _ _ _ c.after-next.result c.in-Repeat.ensures c.after-next.ensures _ c.block-g.result refl c.if-depth-eq0.false c.block-g.ensures c.if-end-s.false
 
 pub line-returns-in_default : goal.line-returns-in_default
-line-returns-in_default t c = said-other _ _ _ c.kind_at.result c.after-next.result c.kind_at.ensures c.after-next.ensures (neither _ c.in_default.not-Call c.in_default.not-Repeat)
+line-returns-in_default t c = said_other _ _ _ c.kind_at.result c.after-next.result c.kind_at.ensures c.after-next.ensures (neither _ c.in_default.not-Call c.in_default.not-Repeat)

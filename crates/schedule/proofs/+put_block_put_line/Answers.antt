@@ -1,6 +1,6 @@
 -- The second pass meets its contracts: what is written of a block's calls and what is left of them make the whole, and a line is written by its kind.
 use Rattle.std.proofs.Common.{refl, arith}
-use Rattle.schedule.proofs.Puts.{going_none, going_end, going_ready, going_on, going_within, call-room, put-call, put_other, deep, inner_ready, start_in, part_ready, end_within, put_repeat}
+use Rattle.schedule.proofs.Puts.{going_none, going_end, going_ready, going_on, going_within, call_room, put_call, put_other, deep, inner_ready, start_in, part_ready, end_within, put_repeat}
 use Rattle.schedule.proofs.Arms.{neither}
 use Rattle.schedule.proofs.Falls.{line_falls, block_falls}
 use Rattle.schedule.proofs.+put_block_put_line.Goals as goal
@@ -41,10 +41,10 @@ put_block-returns t c =
     going_none _ l.i _ _ _ l.t _ l.to l.invariant.1 c.loop-i-test.false
 
 pub put_line-bounds-t-k : goal.put_line-bounds-t-k
-put_line-bounds-t-k t c = call-room _ _ _ _ _ _ c.after-next.result c.requires.0 c.requires.1 c.in-Call.ensures c.after-next.ensures refl
+put_line-bounds-t-k t c = call_room _ _ _ _ _ _ c.after-next.result c.requires.0 c.requires.1 c.in-Call.ensures c.after-next.ensures refl
 
 pub put_line-returns-in-Call : goal.put_line-returns-in-Call
-put_line-returns-in-Call t c = put-call _ _ _ _ _ _ c.after-next.result c.requires.0 c.requires.1 c.in-Call.ensures c.after-next.ensures refl
+put_line-returns-in-Call t c = put_call _ _ _ _ _ _ c.after-next.result c.requires.0 c.requires.1 c.in-Call.ensures c.after-next.ensures refl
 
 pub put_line-overflow_sub-depth : goal.put_line-overflow_sub-depth
 put_line-overflow_sub-depth t c =

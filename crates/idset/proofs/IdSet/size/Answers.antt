@@ -1,7 +1,7 @@
 -- The marks of the four words are the members.
 use Rattle.idset.proofs.Members.{Formed, formed_of}
-use Rattle.idset.proofs.Size.{size-words}
+use Rattle.idset.proofs.Size.{size_words}
 use Rattle.idset.proofs.IdSet.size.Goals as goal
 
 pub returns : goal.returns
-returns c = let formed : Formed c.args.self = search formed_of in size-words _ formed
+returns c = let formed : Formed c.args.self = search formed_of in size_words _ formed

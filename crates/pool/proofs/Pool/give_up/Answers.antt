@@ -3,9 +3,9 @@ use Rattle.std.proofs.Common.{◌≡◌, ◌∙◌, length, rules}
 use Rattle.pool.specs.Answers.{verdict}
 use Rattle.pool.specs.Checks.{list_check, give_up_check}
 use Rattle.pool.specs.Begins.{give_up_of}
-use Rattle.pool.proofs.Told.{fine-told, after_first, after_second, after_both}
+use Rattle.pool.proofs.Told.{fine_told, after_first, after_second, after_both}
 use Rattle.pool.proofs.Checked.{indices}
-use Rattle.pool.proofs.GiveUps.{list-judged, given_up}
+use Rattle.pool.proofs.GiveUps.{list_judged, given_up}
 use Rattle.pool.proofs.Pool.give_up.Goals as goal
 
 pub returns-in-Fault : goal.returns-in-Fault
@@ -19,7 +19,7 @@ pub returns-in-Fault-check : goal.returns-in-Fault-check
 unfolding give_up_of give_up_check
 returns-in-Fault-check c =
     let list : verdict c.list_check-list.result.check ≡ list_check c.args.self c.args.ids.now (length c.args.ids.now) =
-    c.list_check-list.ensures.check ∙ list-judged c.args.self c.args.ids.now (length c.args.ids.now) in
+    c.list_check-list.ensures.check ∙ list_judged c.args.self c.args.ids.now (length c.args.ids.now) in
     search after_second
 
 pub overflow_sub-k : goal.overflow_sub-k
@@ -38,7 +38,7 @@ pub returns : goal.returns
 unfolding give_up_of give_up_check
 returns c =
     let list : verdict c.list_check-list.result.check ≡ list_check c.args.self c.args.ids.now (length c.args.ids.now) =
-    c.list_check-list.ensures.check ∙ list-judged c.args.self c.args.ids.now (length c.args.ids.now) in
+    c.list_check-list.ensures.check ∙ list_judged c.args.self c.args.ids.now (length c.args.ids.now) in
     let long : length c.args.self.states ≡ 256 = search rules in
-    let set = c.list_check-list.ensures.met (fine-told c.list_check-list.result.check c.in_default-check.is) in
+    let set = c.list_check-list.ensures.met (fine_told c.list_check-list.result.check c.in_default-check.is) in
     search (after_both, given_up)

@@ -6,7 +6,7 @@ use Rattle.pool.specs.declared.Pool.{Pool}
 use Rattle.pool.specs.Answers.{count}
 use Rattle.pool.specs.Record.{state_of}
 use Rattle.pool.specs.Questions.{leaving_count_of}
-use Rattle.pool.proofs.Told.{answers, answer-fine}
+use Rattle.pool.proofs.Told.{answers, answer_fine}
 use Rattle.pool.proofs.Scans.{entry}
 use Rattle.pool.proofs.Pool.leaving_count.Goals as goal
 
@@ -24,5 +24,5 @@ returns-in-Fault c = search answers depth 12
 pub returns : goal.returns
 unfolding leaving_count_of
 returns c =
-    answer-fine c.soundness-sound.result _ _ _ c.soundness-sound.ensures c.in_default.is
+    answer_fine c.soundness-sound.result _ _ _ c.soundness-sound.ensures c.in_default.is
     (entries c.args.self _ c.count_leaving.ensures)

@@ -2,7 +2,7 @@
 use Rattle.std.proofs.Common.{◌≡◌, length, not, ap, ◌∙◌, rules}
 use Rattle.pool.specs.Answers.{fine, refuse}
 use Rattle.pool.specs.Steps.{hand_check}
-use Rattle.pool.proofs.Dispatch.{after_is, after_stops, list_is, list_stops, not_all_leaving, too_short, hands, handed-back}
+use Rattle.pool.proofs.Dispatch.{after_is, after_stops, list_is, list_stops, not_all_leaving, too_short, hands, handed_back_lem}
 use Rattle.pool.proofs.Pool.line32.Goals as goal
 
 -- what the check finds at each exit
@@ -31,7 +31,7 @@ pub returns-clause-outcome : goal.returns-clause-outcome
 returns-clause-outcome c =
     let long : length c.args.self.states ≡ 256 = search rules in
     let free = rw long at c.hand.ensures.freed in
-    after_is _ _ (goes c) (c.ends.ensures ∙ handed-back c.args.k c.args.self (length c.args.out.now) _ _ c.size-size.ensures free)
+    after_is _ _ (goes c) (c.ends.ensures ∙ handed_back_lem c.args.k c.args.self (length c.args.out.now) _ _ c.size-size.ensures free)
 
 pub returns-clause-list : goal.returns-clause-list
 returns-clause-list c = list_is _ _ (goes c) c.hand.ensures.list

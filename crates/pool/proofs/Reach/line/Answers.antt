@@ -4,7 +4,7 @@ use Rattle.basics.specs.Pick.{when}
 use Rattle.pool.specs.declared.Answer.TheVariants.{Fired, Posted}
 use Rattle.pool.specs.Answers.{after_check}
 use Rattle.pool.specs.Steps.{line_of, line_check}
-use Rattle.pool.proofs.Dispatch.{arm, own-rest}
+use Rattle.pool.proofs.Dispatch.{arm, own_rest}
 use Rattle.pool.proofs.Reached.{take_ends}
 use Rattle.pool.proofs.Standing.{none_before}
 use Rattle.pool.proofs.Reach.line.Goals as goal
@@ -47,6 +47,6 @@ returns-in-10 c = arm _ c.ends-in-10.result 10 (λ k room p. refl) refl (take_en
 
 pub returns-in_default : goal.returns-in_default
 returns-in_default c =
-    own-rest _ _ c.own_line.ensures (λ n4 n12 n13 n15 n22 n25 n31.
+    own_rest _ _ c.own_line.ensures (λ n4 n12 n13 n15 n22 n25 n31.
     none_before _ (λ e. omega arith) n4 (λ e. omega arith) (λ e. omega arith) (λ e. omega arith) (λ e. omega arith) (λ e. omega arith) (λ e. omega arith)
     n12 n13 n15 (λ e. omega arith) n22 n25 (λ e. omega arith) n31)

@@ -2,5 +2,5 @@
 use Rattle.std.proofs.Common.{◌-◌, length}
 use Rattle.trial.proofs.input.next_line.Given as goal
 
-abbrev pub decreases-loop-more : goal.decreases-loop-more
-decreases-loop-more g l = length l.buffer - l.end
+abbrev pub decreases-loop-buffer : goal.decreases-loop-buffer
+decreases-loop-buffer g l = length l.buffer - l.end
