@@ -20,7 +20,7 @@ use Rattle.pool.specs.Record.{employer_at, posted_at, state_of}
 use Rattle.pool.specs.Sound.{sound_check, sound_of}
 use Rattle.pool.specs.Checks.{worker_of, worker_check, begin_check, guard_check, id_check, fire_check, post_check, list_check, give_up_check, take_check, ask_check}
 use Rattle.pool.proofs.Parts.{Sizes, sizes_of}
-use Rattle.pool.proofs.Told.{fine_by}
+use Rattle.pool.proofs.Told.{NumberFound, fine_by, judged}
 use Rattle.pool.proofs.Firsts.{first_both, never, fine_is}
 
 -- ---- the record is sound
@@ -56,6 +56,9 @@ named p w h =
 
 pub named_by : (v : Verdict) (p : Pool) (w : WorkerNo) → verdict v ≡ worker_check p w → v ≡ Fine → Named p w
 named_by v p w e q = named p w (fine_by v e q)
+
+pub named_judged : (v s : Verdict) (p : Pool) (w : WorkerNo) → NumberFound v s p w → verdict s ≡ sound_check p → v ≡ Fine → Named p w
+named_judged v s p w found sound q = named_by v p w (judged v s p w found sound) q
 
 -- ---- and idle
 

@@ -32,7 +32,8 @@ use Rattle.pool.specs.Steps.{i_of, puts, ends, line32, line_of, hand_check, line
 use Rattle.pool.specs.Checks.{worker_of, worker_check}
 use Rattle.pool.specs.ForProofs.Ready.{Stands}
 use Rattle.pool.specs.ForProofs.Reach.{reach_at, stored_at, putting, own_step, Takes, TakesLine}
-use Rattle.pool.proofs.Told.{fine_by, refuse_by}
+use Rattle.pool.proofs.Told.{NumberFound, fine_by, refuse_by, judged}
+use Rattle.pool.specs.Sound.{sound_check}
 use Rattle.pool.proofs.Scans.{entry}
 use Rattle.pool.proofs.Standing.{before32, stands, in_use, place_most, ready, last_label}
 use Rattle.pool.proofs.Parts.{sizes_of}
@@ -187,7 +188,10 @@ module _ (k : ℕ) (p : Pool) (room : ℕ) where
 
 -- ---- the call, from its check and its line
 
-module _ (v : Verdict) (p : Pool) (w : WorkerNo) (e : verdict v ≡ worker_check p w) (out : List ℕ) where
+module _ (v s : Verdict) (p : Pool) (w : WorkerNo) (found : NumberFound v s p w) (sound : verdict s ≡ sound_check p) (out : List ℕ) where
+  e : verdict v ≡ worker_check p w
+  e = judged v s p w found sound
+
   module _ (r : Refusal) (place : ℕ) (q : v ≡ Fault r place) where
     pub stopped : answering (refused (number_of r) place) p ≡ advance_of p w out
     unfolding advance_of advance_check stand_check first after_check

@@ -53,9 +53,9 @@ entry_judged count states ids k {s} {again} {c} few e h q =
         ap rest (h ∙ met_before ids k e id (id_true id lo (omega arith)))
 
 -- nothing else of the record is read
-pub list_judged : (p : Pool) (ids : List ℕ) (n : ℕ) → list_check (buffers_alone p.b p.states) ids n ≡ list_check p ids n
+pub list_judged : (p : Pool) (ids : List ℕ) (n : ℕ) {c : Check} → c ≡ list_check (buffers_alone p.b p.states) ids n → c ≡ list_check p ids n
 unfolding entry_check id_check
-list_judged p ids n = refl
+list_judged p ids n e = e
 
 -- ---- one buffer leaves
 

@@ -94,9 +94,11 @@ id_first p id place b = go (ltb id 1) (ltb p.b id)
 
 -- ---- a verdict on numbers of the record is the check of the record
 
-pub judged : (v s : Verdict) (p : Pool) (w : WorkerNo)
-    → verdict v ≡ first (verdict s) (when (ltb w.0 1) (refuse 3 0) (when (ltb p.w w.0) (refuse 3 0) fine)) → verdict s ≡ sound_check p
-    → verdict v ≡ worker_check p w
+-- what the check of a worker's number finds after a verdict
+abbrev pub NumberFound : Verdict → Verdict → Pool → WorkerNo → Type 0
+NumberFound v s p w = verdict v ≡ first (verdict s) (when (ltb w.0 1) (refuse 3 0) (when (ltb p.w w.0) (refuse 3 0) fine))
+
+pub judged : (v s : Verdict) (p : Pool) (w : WorkerNo) → NumberFound v s p w → verdict s ≡ sound_check p → verdict v ≡ worker_check p w
 unfolding worker_check
 judged v s p w h e = rw e at h
 

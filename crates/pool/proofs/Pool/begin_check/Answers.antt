@@ -1,21 +1,14 @@
 -- `pool::Pool::begin_check` meets its contract. Assumes nothing.
 use Rattle.pool.specs.Checks.{begin_check}
 use Rattle.pool.proofs.Told.{checks, judged}
-use Rattle.pool.proofs.Checked.{named_by, index}
+use Rattle.pool.proofs.Checked.{named_judged, index}
 use Rattle.pool.proofs.Pool.begin_check.Goals as goal
 
 pub overflow_sub-k : goal.overflow_sub-k
-overflow_sub-k c =
-    (named_by c.worker_verdict-check.result c.args.self c.args.w
-    (judged c.worker_verdict-check.result c.parts_check-sound.result c.args.self c.args.w c.worker_verdict-check.ensures c.parts_check-sound.ensures)
-    c.in-Fine.is).some
+overflow_sub-k c = (named_judged c.worker_verdict-check.result c.parts_check-sound.result c.args.self c.args.w c.worker_verdict-check.ensures c.parts_check-sound.ensures c.in-Fine.is).some
 
 pub bounds-self-k : goal.bounds-self-k
-bounds-self-k c =
-    index
-    (named_by c.worker_verdict-check.result c.args.self c.args.w
-    (judged c.worker_verdict-check.result c.parts_check-sound.result c.args.self c.args.w c.worker_verdict-check.ensures c.parts_check-sound.ensures)
-    c.in-Fine.is)
+bounds-self-k c = index (named_judged c.worker_verdict-check.result c.parts_check-sound.result c.args.self c.args.w c.worker_verdict-check.ensures c.parts_check-sound.ensures c.in-Fine.is)
 
 pub returns-in-Fault : goal.returns-in-Fault
 unfolding begin_check
