@@ -1,10 +1,9 @@
 -- One advance of a worker at the labels that store to nothing but its own label and registers. `posted` and `slot` are those of
 -- guard i, and `member` says whether the posted id is in the worker's set.
-use Rattle.std.specs.Prelude.{ℕ, ◌+◌, Bool, true, false, not, ◌&&◌, ◌||◌, ltb, leb, eqb}
+use Rattle.std.specs.Prelude.{ℕ, ◌+◌, Bool, not, Option, Some, None, ◌&&◌, ◌||◌, ltb, leb, eqb}
 use Rattle.basics.specs.Pick.{when}
 use Rattle.worker.specs.declared.Slot.{Slot}
 use Rattle.worker.specs.declared.Worker.{Worker}
-use Rattle.worker.specs.declared.Stepped.{Stepped}
 use Rattle.worker.specs.Registers.{largest, to, with_i, with_v, with_h, with_attempts, with_max}
 
 -- both parts count: the id alone may have come back
@@ -47,24 +46,18 @@ at25 x posted = to (when (eqb x.attempts 2 && not (eqb x.h.id 0) || not (eqb x.v
 abbrev pub at31 : Worker → Worker
 at31 x = to 12 (with_i (x.i + 1) x)
 
-abbrev pub moved : Worker → Stepped
-moved x = record { applies = true; worker = x }
-
-abbrev pub stays : Worker → Stepped
-stays x = record { applies = false; worker = x }
-
 -- the labels at which this step applies
 unfoldable pub own : ℕ → Bool
 own l = eqb l 4 || eqb l 12 || eqb l 13 || eqb l 15 || eqb l 22 || eqb l 25 || eqb l 31
 
--- The step for any numbers whatever. A count at the largest number cannot go up; no sound record has one.
-unfoldable pub step_of : Worker → ℕ → ℕ → Bool → Slot → Stepped
+-- The step for any numbers whatever, and nothing at any other label. A count at the largest number cannot go up; no sound record has one.
+unfoldable pub step_of : Worker → ℕ → ℕ → Bool → Slot → Option Worker
 step_of x maxg posted member slot =
-    when (eqb x.label 4) (moved (at4 x maxg))
-    (when (eqb x.label 12) (moved (at12 x maxg))
-    (when (eqb x.label 13) (moved (at13 x slot))
-    (when (eqb x.label 15) (moved (at15 x posted member))
-    (when (eqb x.label 22) (when (ltb x.attempts largest) (moved (at22 x slot)) (stays x))
-    (when (eqb x.label 25) (moved (at25 x posted))
-    (when (eqb x.label 31) (when (ltb x.i largest) (moved (at31 x)) (stays x))
-    (stays x)))))))
+    when (eqb x.label 4) (Some (at4 x maxg))
+    (when (eqb x.label 12) (Some (at12 x maxg))
+    (when (eqb x.label 13) (Some (at13 x slot))
+    (when (eqb x.label 15) (Some (at15 x posted member))
+    (when (eqb x.label 22) (when (ltb x.attempts largest) (Some (at22 x slot)) None)
+    (when (eqb x.label 25) (Some (at25 x posted))
+    (when (eqb x.label 31) (when (ltb x.i largest) (Some (at31 x)) None)
+    None))))))

@@ -1,5 +1,5 @@
 // One worker's registers, and its advance at the labels that store to nothing but them.
-#![tactic(auto)]
+#![tactic(auto, using(basics::proofs::Picks::picks))]
 
 pub mod lent;
 mod step;
@@ -8,14 +8,14 @@ ghost use Rattle.std.specs.Prelude.{◌≡◌};
 ghost use Rattle.worker.specs.Registers.{no_worker};
 
 // A hand-off slot's contents.
-#[derive(Clone, Copy)]
+#[derive(Clone, Copy, Debug, PartialEq, Eq)]
 pub struct Slot {
     pub id: u32,
     pub version: u32,
 }
 
 // A worker's label and registers: plain numbers, so that a damaged record can be written down.
-#[derive(Clone, Copy)]
+#[derive(Clone, Copy, Debug, PartialEq, Eq)]
 pub struct Worker {
     pub label: u32,
     pub i: u32,
@@ -30,21 +30,13 @@ impl Worker {
     pub fn idle() -> Worker
         ensures { result ≡ no_worker }
     {
-        let h = Slot { id: 0, version: 0 };
         Worker {
             label: 0,
             i: 0,
             v: 0,
-            h: h,
+            h: Slot { id: 0, version: 0 },
             attempts: 0,
             max: 0,
         }
     }
-}
-
-// Whether the worker's label is one of this crate's, and the worker afterwards.
-#[derive(Clone, Copy)]
-pub struct Stepped {
-    pub applies: bool,
-    pub worker: Worker,
 }

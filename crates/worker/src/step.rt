@@ -1,130 +1,110 @@
-// The advance of a worker's registers, a method for each label. What else the labels read comes in as plain values: MAXG, the
-// posted id and the slot of guard i, and whether that id is in the worker's set.
+// The advance of a worker's registers, a method for each label. What else the labels read comes in as plain values, as the paper has it: MAXG,
+// the posted id and the slot of guard i, and whether that id is in the worker's set.
 ghost use Rattle.std.specs.Prelude.{◌≡◌, ◌<◌};
-ghost use Rattle.basics.specs.Pick.{when};
 ghost use Rattle.worker.specs.Registers.{largest};
-ghost use Rattle.worker.specs.Steps.{at4, at12, at13, at15, at22, at25, at31, moved, stays, step_of};
+ghost use Rattle.worker.specs.Steps.{at4, at12, at13, at15, at22, at25, at31, step_of};
 
-use super::{Slot, Stepped, Worker};
-
-// It has no successor in a register.
-const LARGEST: u32 = 4294967295;
-
-fn choose(test: bool, yes: u32, no: u32) -> u32
-    ensures { result ≡ when test yes no }
-{
-    if test { yes } else { no }
-}
+use super::{Slot, Worker};
 
 impl Worker {
-    // One advance. At any other label, and where a count could not go up, it does not apply and changes nothing.
-    pub fn step(self, maxg: u32, posted: u32, member: bool, slot: Slot) -> Stepped
+    // One advance: nothing at any other label, and where a count could not go up.
+    // Kept: the label is a number and not an enum, since any number can stand in a record that is handed in.
+    #[tactic(auto, using(crate::proofs::Laws::steps))]
+    pub fn step(self, maxg: u32, posted: u32, member: bool, slot: Slot) -> Option<Worker>
         ensures { result ≡ step_of self maxg posted member slot }
     {
-        let label = self.label;
-        match label {
-            4 => self.at4(maxg).moved(),
-            12 => self.at12(maxg).moved(),
-            13 => self.at13(slot).moved(),
-            15 => self.at15(posted, member).moved(),
-            22 => if self.attempts < LARGEST {
-                self.at22(slot).moved()
-            } else {
-                self.stays()
-            },
-            25 => self.at25(posted).moved(),
-            31 => if self.i < LARGEST {
-                self.at31().moved()
-            } else {
-                self.stays()
-            },
-            _ => self.stays(),
+        match self.label {
+            4 => Some(self.at4(maxg)),
+            12 => Some(self.at12(maxg)),
+            13 => Some(self.at13(slot)),
+            15 => Some(self.at15(posted, member)),
+            22 if self.attempts < u32::MAX => Some(self.at22(slot)),
+            25 => Some(self.at25(posted)),
+            31 if self.i < u32::MAX => Some(self.at31()),
+            _ => None,
         }
     }
 
-    fn moved(self) -> Stepped
-        ensures { result ≡ moved self }
-    {
-        Stepped {
-            applies: true,
-            worker: self,
-        }
-    }
-
-    fn stays(self) -> Stepped
-        ensures { result ≡ stays self }
-    {
-        Stepped {
-            applies: false,
-            worker: self,
-        }
-    }
-
-    fn at4(mut self, maxg: u32) -> Worker
+    fn at4(self, maxg: u32) -> Worker
         ensures { result ≡ at4 self maxg }
     {
-        self.max = maxg;
-        self.label = choose(maxg < self.i, 5, 6);
-        self
+        Worker {
+            max: maxg,
+            label: if maxg < self.i { 5 } else { 6 },
+            ..self
+        }
     }
 
-    fn at12(mut self, maxg: u32) -> Worker
+    fn at12(self, maxg: u32) -> Worker
         ensures { result ≡ at12 self maxg }
     {
-        self.label = choose(self.i <= maxg, 13, 32);
-        self
+        Worker {
+            label: if self.i <= maxg { 13 } else { 32 },
+            ..self
+        }
     }
 
-    fn at13(mut self, slot: Slot) -> Worker
+    fn at13(self, slot: Slot) -> Worker
         ensures { result ≡ at13 self slot }
     {
-        self.attempts = 0;
-        self.h = slot;
-        self.label = 15;
-        self
+        Worker {
+            attempts: 0,
+            h: slot,
+            label: 15,
+            ..self
+        }
     }
 
-    fn at15(mut self, posted: u32, member: bool) -> Worker
+    fn at15(self, posted: u32, member: bool) -> Worker
         ensures { result ≡ at15 self posted member }
     {
-        self.v = posted;
-        self.label = choose((posted != 0) & member, 18, 28);
-        self
+        Worker {
+            v: posted,
+            label: if (posted != 0) & member { 18 } else { 28 },
+            ..self
+        }
     }
 
-    fn at22(mut self, slot: Slot) -> Worker
+    #[tactic(auto, using(basics::proofs::Picks::picks), unfolding(crate::specs::Steps::at22))]
+    fn at22(self, slot: Slot) -> Worker
         requires { self.attempts < largest }
         ensures { result ≡ at22 self slot }
     {
         let attempts = self.attempts + 1;
-        self.attempts = attempts;
         if attempts == 3 {
-            self.label = 31;
-            return self;
+            Worker {
+                attempts,
+                label: 31,
+                ..self
+            }
+        } else {
+            Worker {
+                attempts,
+                h: slot,
+                label: 25,
+                ..self
+            }
         }
-        self.h = slot;
-        self.label = 25;
-        self
     }
 
-    fn at25(mut self, posted: u32) -> Worker
+    fn at25(self, posted: u32) -> Worker
         ensures { result ≡ at25 self posted }
     {
-        let h = self.h;
-        self.label = choose(
-            ((self.attempts == 2) & (h.id != 0)) | (self.v != posted),
-            31,
-            18,
-        );
-        self
+        let filled = (self.attempts == 2) & (self.h.id != 0);
+        Worker {
+            label: if filled | (self.v != posted) { 31 } else { 18 },
+            ..self
+        }
     }
 
-    fn at31(mut self) -> Worker
+    fn at31(self) -> Worker
         requires { self.i < largest }
         ensures { result ≡ at31 self }
     {
-        self.i = self.i + 1;
-        self.label = 12;
-        self
+        Worker {
+            i: self.i + 1,
+            label: 12,
+            ..self
+        }
     }
 }
