@@ -7,6 +7,7 @@ use native.Mathlib.Nat.{zero-lt-suc, zero-add, suc-add, add-zero}
 use native.Mathlib.Numerals.{one-add, add-one}
 use native.Mathlib.Omega.{arith}
 use lib.ListN.{length, get_or}
+use Rattle.std.specs.Prelude.{Some, None}
 use Rattle.basics.specs.Pick.{when}
 use borrow.Author.Tests.{eq-eqb, ne_eqb}
 use Rattle.basics.specs.Below.{count_below, any_below, one}
@@ -17,7 +18,7 @@ use Rattle.basics.proofs.Count.{count_none, count_front, count_cong}
 use Rattle.idset.specs.declared.IdSet.{IdSet}
 use Rattle.idset.specs.Members.{digit, member_of, size_of, next_mark, ids_of, above, members_of}
 use Rattle.idset.proofs.Members.{member_at}
-use Rattle.idset.proofs.Marks.{Mark, mark_is}
+use Rattle.idset.proofs.Marks.{Mark, Told, mark_is}
 
 ids_skip : (p : ℕ → Bool) (t n b : ℕ) → ((j : ℕ) → j < t → p (b + j) ≡ false) → ids_of p (t + n) b ≡ ids_of p n (b + t)
 unfolding ids_of when
@@ -65,30 +66,31 @@ above_met {s} {k} met =
     let count : 256 - k ≡ suc (256 - (k + 1)) = omega arith in
     ap₂ (ids_of (member_of s)) count (sym (add-one k)) ∙ ids_hit (member_of s) (256 - (k + 1)) (k + 1) met.member
 
--- what a search for the next mark of word i tells: r is a place of that word, or its end
-module _ (s : IdSet) (i m : ℕ) {r : ℕ} (hi : i < 4) (e : r ≡ next_mark (get_or s.words i 0) m) where
-  mark : Mark (get_or s.words i 0) m r
-  mark = subst (Mark (get_or s.words i 0) m) (sym e) (mark_is (get_or s.words i 0) m)
-
+-- what a search for the next mark of word i tells: the member at its place, and that none stands before it; or that none stands up to the
+-- word's end
+module _ (s : IdSet) (i m : ℕ) (hi : i < 4) where
   member_in : (b j : ℕ) → j < 64 → b ≡ 64 * i + j + 1 → member_of s b ≡ digit (get_or s.words i 0) j
   member_in b j l q = let q' : b ≡ suc (i * 64 + j) = omega arith in ap (member_of s) q' ∙ member_at s i j hi l
 
-  pub mark_passed : m ≤ 64 → Passed s (64 * i + m) (64 * i + r)
-  mark_passed h =
-      let top = mark.top in
+  passed_to : (r : ℕ) → m ≤ r → r ≤ 64 → ((j : ℕ) → m ≤ j → j < r → digit (get_or s.words i 0) j ≡ false) → Passed s (64 * i + m) (64 * i + r)
+  passed_to r up top none =
       record {
-        up = by_order 64 r (λ l. omega arith) (λ l. omega (arith, (mark.found (λ z. omega arith)).0));
+        up = omega arith;
         top = omega arith;
-        none = λ b lo up. let j = b - (64 * i + 1) in member_in b j (omega arith) (omega arith) ∙ mark.none j (omega arith) (omega arith);
+        none = λ b lo up. let j = b - (64 * i + 1) in member_in b j (omega arith) (omega arith) ∙ none j (omega arith) (omega arith);
       }
 
-  pub mark_below : (r ≡ 64 → ⊥) → r < 64
-  mark_below f = omega (arith, mark.top)
+  pub mark_met : {r : ℕ} → Some r ≡ next_mark (get_or s.words i 0) m → (r < 64) × Passed s (64 * i + m) (64 * i + r) × Met s (64 * i + r)
+  mark_met {r} e =
+      let mark : Mark (get_or s.words i 0) m r = subst (Told (get_or s.words i 0) m) (sym e) (mark_is (get_or s.words i 0) m) in
+      let below = mark.top in
+      (below, passed_to r mark.up (omega arith) mark.none, record { top = omega arith; member = member_in (64 * i + r + 1) r below refl ∙ mark.here })
 
-  pub mark_met : (r ≡ 64 → ⊥) → Met s (64 * i + r)
-  mark_met f =
-      let below = mark_below f in
-      record { top = omega arith; member = member_in (64 * i + r + 1) r below refl ∙ (mark.found f).1 }
+  pub marks_passed : m ≤ 64 → None ≡ next_mark (get_or s.words i 0) m → Passed s (64 * i + m) (64 * (i + 1))
+  marks_passed h e =
+      let none : Told (get_or s.words i 0) m None = subst (Told (get_or s.words i 0) m) (sym e) (mark_is (get_or s.words i 0) m) in
+      let q : 64 * i + 64 ≡ 64 * (i + 1) = omega arith in
+      rw q at (passed_to 64 h (omega arith) none)
 
 -- as many as the count says
 ids_length : (p : ℕ → Bool) (n b : ℕ) → length (ids_of p n b) ≡ count_below n (λ k. p (b + k))

@@ -1,5 +1,5 @@
 -- Membership of an id in a set, and the sets, counts and searches that the contracts state by it.
-use Rattle.std.specs.Prelude.{◌≡◌, Bool, false, not, ◌&&◌, ◌||◌, List, [], ◌∷◌, ℕ, zero, suc, ◌+◌, ◌-◌, ◌*◌, ◌/◌, ◌%◌, ◌^◌, max, get_or, eqb, leb}
+use Rattle.std.specs.Prelude.{◌≡◌, Bool, false, not, ◌&&◌, ◌||◌, List, [], ◌∷◌, ℕ, zero, suc, ◌+◌, ◌-◌, ◌*◌, ◌/◌, ◌%◌, ◌^◌, max, get_or, eqb, leb, Option, Some, None}
 use Rattle.basics.specs.Pick.{when}
 use Rattle.basics.specs.Below.{all_below, count_below, one}
 use Rattle.idset.specs.declared.IdSet.{IdSet}
@@ -19,6 +19,10 @@ set_in words = record { words = words }
 -- b is a member of s: its mark is set
 unfoldable pub member_of : IdSet → ℕ → Bool
 member_of s b = is_id b && digit (get_or s.words ((b - 1) / 64) 0) ((b - 1) % 64)
+
+-- the word that has b's mark, and the mark's place in it
+unfoldable pub place_of : ℕ → Option (ℕ × ℕ)
+place_of b = when (is_id b) (Some ((b - 1) / 64, (b - 1) % 64)) None
 
 -- ---- sets
 
@@ -63,13 +67,13 @@ larger_of s t = record { words = larger_at s t 0 ∷ larger_at s t 1 ∷ larger_
 unfoldable pub size_of : IdSet → ℕ
 size_of s = count_below 256 (λ k. member_of s (suc k))
 
--- the first of the places j, j + 1, .., j + n - 1 of word w that is marked, or 64
-unfoldable pub first_mark : ℕ → ℕ → ℕ → ℕ
-first_mark w zero j = 64
-first_mark w (suc n) j = when (digit w j) j (first_mark w n (suc j))
+-- the first of the places j, j + 1, .., j + n - 1 of word w that is marked
+unfoldable pub first_mark : ℕ → ℕ → ℕ → Option ℕ
+first_mark w zero j = None
+first_mark w (suc n) j = when (digit w j) (Some j) (first_mark w n (suc j))
 
--- the first marked place of word w at j or above, or 64
-unfoldable pub next_mark : ℕ → ℕ → ℕ
+-- the first marked place of word w at j or above
+unfoldable pub next_mark : ℕ → ℕ → Option ℕ
 next_mark w j = first_mark w (64 - j) j
 
 -- every member is at most a

@@ -3,12 +3,26 @@
 // `larger` and `next_mark` alone go by words.
 #![tactic(auto)]
 
-ghost use Rattle.std.specs.Prelude.{◌≡◌, ◌-◌, ◌^◌, max, ltb};
-ghost use Rattle.idset.specs.Members.{set_in, MarksAlone, member_of, no_ids, with_of, without_of, size_of, next_mark, within_of, larger_of};
+ghost use Rattle.std.specs.Prelude.{◌≡◌, ◌-◌, ◌^◌, ◌<◌, ltb, IfSome};
+ghost use Rattle.idset.specs.Members.{set_in, MarksAlone, member_of, no_ids, with_of, without_of, size_of, place_of, next_mark, within_of, larger_of};
 
-#[derive(Clone, Copy)]
+#[derive(Clone, Copy, Debug, PartialEq, Eq)]
 pub struct IdSet {
     pub words: [u64; 4],
+}
+
+// The word that has id's mark, and the mark's place in it; nothing for 0 and what is above 256.
+fn place_of(id: u32) -> Option<(usize, u32)>
+    ensures place { result ≡ place_of id }
+    ensures fits { IfSome result (λ p. (p.0 < 4) × (p.1 < 64)) }
+{
+    match id {
+        1..=256 => {
+            let at = id - 1;
+            Some(((at / 64) as usize, at % 64))
+        }
+        _ => None,
+    }
 }
 
 // Whether no mark of the word that follows id `base` stands above id `limit`. A shift by the word's width or more has no meaning
@@ -23,24 +37,18 @@ fn clear_above(word: u64, base: u32, limit: u32) -> bool
     if 64 <= room { true } else { word >> room == 0 }
 }
 
-fn larger_word(a: u64, b: u64) -> u64
-    ensures { result ≡ max a b }
-{
-    if a < b { b } else { a }
-}
-
-// The place of the first mark of the word at `from` or above, or 64 where there is none. A walk over a set holds one word at a time.
-pub fn next_mark(word: u64, from: u32) -> u32
+// The place of the first mark of the word at `from` or above. A walk over a set holds one word at a time.
+pub fn next_mark(word: u64, from: u32) -> Option<u32>
     ensures { result ≡ next_mark word from }
 {
     if 64 <= from {
-        return 64;
+        return None;
     }
     let rest = word >> from;
     if rest == 0 {
-        return 64;
+        return None;
     }
-    from + u64::trailing_zeros(rest)
+    Some(from + rest.trailing_zeros())
 }
 
 // Marks id in the words of a set, and answers whether it was marked. 0 and what is above 256 change nothing.
@@ -48,18 +56,13 @@ pub fn mark(words: &mut [u64; 4], id: u32) -> bool
     ensures marked { MarksAlone (set_in words.old) → set_in words.new ≡ with_of (set_in words.old) id }
     ensures met { result ≡ member_of (set_in words.old) id }
 {
-    if id < 1 {
+    let Some((i, at)) = place_of(id) else {
         return false;
-    }
-    if 256 < id {
-        return false;
-    }
-    let at = id - 1;
-    let i = (at / 64) as usize;
+    };
     let before = words[i];
-    let after = before | (1u64 << (at % 64));
+    let after = before | (1 << at);
     words[i] = after;
-    ((before >> (at % 64)) & 1) == 1
+    (before >> at) & 1 == 1
 }
 
 impl IdSet {
@@ -74,32 +77,19 @@ impl IdSet {
     pub fn has(self, id: u32) -> bool
         ensures { result ≡ member_of self id }
     {
-        if id < 1 {
-            return false;
+        match place_of(id) {
+            Some((i, at)) => (self.words[i] >> at) & 1 == 1,
+            None => false,
         }
-        if 256 < id {
-            return false;
-        }
-        let at = id - 1;
-        let i = (at / 64) as usize;
-        let w = self.words[i];
-        ((w >> (at % 64)) & 1) == 1
     }
 
     // The set with id as a member. 0 and what is above 256 change nothing.
     pub fn with(mut self, id: u32) -> IdSet
         ensures { result ≡ with_of self id }
     {
-        if id < 1 {
-            return self;
+        if let Some((i, at)) = place_of(id) {
+            self.words[i] |= 1 << at;
         }
-        if 256 < id {
-            return self;
-        }
-        let at = id - 1;
-        let i = (at / 64) as usize;
-        let w = self.words[i];
-        self.words[i] = w | (1u64 << (at % 64));
         self
     }
 
@@ -107,16 +97,9 @@ impl IdSet {
     pub fn without(mut self, id: u32) -> IdSet
         ensures { result ≡ without_of self id }
     {
-        if id < 1 {
-            return self;
+        if let Some((i, at)) = place_of(id) {
+            self.words[i] &= !(1 << at);
         }
-        if 256 < id {
-            return self;
-        }
-        let at = id - 1;
-        let i = (at / 64) as usize;
-        let w = self.words[i];
-        self.words[i] = w & !(1u64 << (at % 64));
         self
     }
 
@@ -124,33 +107,29 @@ impl IdSet {
     pub fn size(self) -> u32
         ensures { result ≡ size_of self }
     {
-        u64::count_ones(self.words[0])
-            + u64::count_ones(self.words[1])
-            + u64::count_ones(self.words[2])
-            + u64::count_ones(self.words[3])
+        let [a, b, c, d] = self.words;
+        a.count_ones() + b.count_ones() + c.count_ones() + d.count_ones()
     }
 
     // Whether every member is at most limit; within 0 a set is empty. No branch depends on the words.
     pub fn within(self, limit: u32) -> bool
         ensures { result ≡ within_of self limit }
     {
-        let a = clear_above(self.words[0], 0, limit);
-        let b = clear_above(self.words[1], 64, limit);
-        let c = clear_above(self.words[2], 128, limit);
-        let d = clear_above(self.words[3], 192, limit);
-        a & b & c & d
+        let [a, b, c, d] = self.words;
+        clear_above(a, 0, limit)
+            & clear_above(b, 64, limit)
+            & clear_above(c, 128, limit)
+            & clear_above(d, 192, limit)
     }
 
     // Word by word the larger of the two: it is within a limit exactly when both are.
     pub fn larger(self, other: IdSet) -> IdSet
         ensures { result ≡ larger_of self other }
     {
-        let a = larger_word(self.words[0], other.words[0]);
-        let b = larger_word(self.words[1], other.words[1]);
-        let c = larger_word(self.words[2], other.words[2]);
-        let d = larger_word(self.words[3], other.words[3]);
+        let [a, b, c, d] = self.words;
+        let [e, f, g, h] = other.words;
         IdSet {
-            words: [a, b, c, d],
+            words: [a.max(e), b.max(f), c.max(g), d.max(h)],
         }
     }
 }

@@ -1,20 +1,17 @@
 -- As `with` and `has`, on words that are lent: that they are words is what `MarksAlone` gives.
-use Rattle.std.proofs.Common.{sym}
 use Rattle.idset.specs.Members.{set_in}
-use Rattle.idset.proofs.Members.{formed_by, with_none, no_member, too_low, too_high}
-use Rattle.idset.proofs.Words.{with_word, has_word}
+use Rattle.idset.proofs.Members.{formed_by}
+use Rattle.idset.proofs.Words.{with_at, with_nowhere, has_at, has_nowhere}
 use Rattle.idset.proofs.mark.Goals as goal
 
-pub returns-then-id-lt1 : goal.returns-then-id-lt1
-returns-then-id-lt1 c = let out = too_low c.if-id-lt1.true in record { marked = λ e. with_none _ _ (formed_by _ e) out; met = sym (no_member _ _ out) }
+pub returns-in_default-clause-marked : goal.returns-in_default-clause-marked
+returns-in_default-clause-marked c = λ e. search (with_nowhere, formed_by)
 
-pub returns-then-id-gt256 : goal.returns-then-id-gt256
-returns-then-id-gt256 c = let out = too_high c.if-id-gt256.true in record { marked = λ e. with_none _ _ (formed_by _ e) out; met = sym (no_member _ _ out) }
+pub returns-in_default-clause-met : goal.returns-in_default-clause-met
+returns-in_default-clause-met c = search has_nowhere
 
-pub returns : goal.returns
-returns c =
-    let s = set_in c.args.words.now in
-    record {
-      marked = λ e. with_word s c.args.id (formed_by _ e) c.if-id-lt1.false c.if-id-gt256.false;
-      met = has_word s c.args.id c.if-id-lt1.false c.if-id-gt256.false;
-    }
+pub returns-clause-marked : goal.returns-clause-marked
+returns-clause-marked c = λ e. with_at (set_in c.args.words.now) c.args.id c.place_of.ensures.place (formed_by _ e) c.in-Some.is
+
+pub returns-clause-met : goal.returns-clause-met
+returns-clause-met c = has_at (set_in c.args.words.now) c.args.id c.place_of.ensures.place c.in-Some.is

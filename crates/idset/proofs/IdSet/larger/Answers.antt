@@ -4,4 +4,4 @@ use Rattle.idset.proofs.IdSet.larger.Goals as goal
 
 pub returns : goal.returns
 unfolding larger_of
-returns c = rw (c.larger_word-a.ensures, c.larger_word-b.ensures, c.larger_word-c.ensures, c.larger_word-d.ensures)
+returns c = rw (c.max.ensures, c.max-2.ensures, c.max-3.ensures, c.max-4.ensures)

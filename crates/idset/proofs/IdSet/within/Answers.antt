@@ -6,4 +6,4 @@ use Rattle.idset.proofs.IdSet.within.Goals as goal
 pub returns : goal.returns
 returns c =
     let formed : Formed c.args.self = search formed_of in
-    rw (c.clear_above-a.ensures, c.clear_above-b.ensures, c.clear_above-c.ensures, c.clear_above-d.ensures) (within_words _ _ formed)
+    rw (c.clear_above.ensures, c.clear_above-2.ensures, c.clear_above-3.ensures, c.clear_above-4.ensures) (within_words _ _ formed)
