@@ -1,6 +1,6 @@
 -- What is known of the record and the arguments once a check has found nothing: `search` finds each by what the check's code answered.
 -- Assumes nothing.
-use mathlib.Core.Path.{◌≡◌, sym, ap, ◌∙◌}
+use mathlib.Core.Path.{◌≡◌, ap}
 use mathlib.Core.Bool.{true}
 use mathlib.Core.List.{List}
 use Prim.Native.Nat.{ℕ, ◌-◌, ◌≤◌, ◌<◌}
@@ -13,14 +13,11 @@ use Rattle.pool.specs.declared.Pool.{Pool}
 use Rattle.pool.specs.declared.WorkerNo.{WorkerNo}
 use Rattle.pool.specs.declared.GuardNo.{GuardNo}
 use Rattle.pool.specs.declared.BufferId.{BufferId}
-use Rattle.pool.specs.declared.Verdict.{Verdict}
-use Rattle.pool.specs.declared.Verdict.TheVariants.{Fine}
-use Rattle.pool.specs.Answers.{fine, refuse, verdict, is_fine}
+use Rattle.pool.specs.Answers.{fine, refuse, is_fine}
 use Rattle.pool.specs.Record.{employer_at, posted_at, state_of}
 use Rattle.pool.specs.Sound.{sound_check, sound_of}
 use Rattle.pool.specs.Checks.{worker_of, worker_check, begin_check, guard_check, id_check, fire_check, post_check, list_check, give_up_check, take_check, ask_check}
 use Rattle.pool.proofs.Parts.{Sizes, sizes_of}
-use Rattle.pool.proofs.Told.{NumberFound, fine_by, judged}
 use Rattle.pool.proofs.Firsts.{first_both, never, fine_is}
 
 -- ---- the record is sound
@@ -32,10 +29,6 @@ sound_of_lem p h = ap is_fine h
 pub sound_passes : (p : Pool) → sound_of p ≡ true → sound_check p ≡ fine
 unfolding sound_of
 sound_passes p h = fine_is (sound_check p) h
-
--- and then it has at most 256 buffers
-pub buffers_if : (s : Verdict) (p : Pool) → verdict s ≡ sound_check p → verdict s ≡ fine → p.b ≤ 256
-buffers_if s p e t = (sizes_of p (sound_of_lem p (sym e ∙ t))).b_most
 
 -- ---- the worker is one of the pool's
 
@@ -54,12 +47,6 @@ named p w h =
     let sound = sound_of_lem p a.0 in
     record { sound = sound; sizes = sizes_of p sound; some = ltb-false _ _ b.0; most = ltb-false _ _ c.0 }
 
-pub named_by : (v : Verdict) (p : Pool) (w : WorkerNo) → verdict v ≡ worker_check p w → v ≡ Fine → Named p w
-named_by v p w e q = named p w (fine_by v e q)
-
-pub named_judged : (v s : Verdict) (p : Pool) (w : WorkerNo) → NumberFound v s p w → verdict s ≡ sound_check p → v ≡ Fine → Named p w
-named_judged v s p w found sound q = named_by v p w (judged v s p w found sound) q
-
 -- ---- and idle
 
 pub record Begun (p : Pool) (w : WorkerNo) : Type 0 where
@@ -72,9 +59,6 @@ begun p w h =
     let a = first_both (worker_check p w) _ h in
     let b = unless_back (eqb (worker_of p w).label 0) fine (refuse 4 0) fine never a.1 in
     record { worker = named p w a.0; idle = eqb-true _ _ b.0 }
-
-pub begun_by : (v : Verdict) (p : Pool) (w : WorkerNo) → verdict v ≡ begin_check p w → v ≡ Fine → Begun p w
-begun_by v p w e q = begun p w (fine_by v e q)
 
 -- ---- the guard is the worker's own
 
@@ -161,60 +145,17 @@ pub gives_up : (p : Pool) (w : WorkerNo) (ids : List ℕ) → give_up_check p w 
 unfolding give_up_check
 gives_up p w ids h = let a = first_both (begin_check p w) _ h in record { begun = begun p w a.0; list = a.1 }
 
--- ---- the ranges that the code's indices want, by what the check's code answered: `search indices`
+-- ---- what the code's next step asks
 
-pub index : {p : Pool} {w : WorkerNo} → Named p w → w.0 - 1 < 8
-index n = omega (arith, n)
+pub number_below : {p : Pool} {w : WorkerNo} → Named p w → w.0 - 1 < 8
+number_below n = omega (arith, n)
 
-slot_index : {p : Pool} {w : WorkerNo} {g : GuardNo} → Named p w → Employed p w g → g.0 < 32
-slot_index n e = omega (arith, n, e)
+-- a sound record has at most 32 guards and 256 buffers
+pub few_guards : (p : Pool) (w : WorkerNo) → begin_check p w ≡ fine → p.g ≤ 32
+few_guards p w h = (begun p w h).worker.sizes.g_most
 
-state_index : {p : Pool} {id : ℕ} → Sizes p → Buffer p id → id - 1 < 256
-state_index s b = omega (arith, s, b)
+pub few_buffers : (p : Pool) → sound_check p ≡ fine → p.b ≤ 256
+few_buffers p h = (sizes_of p (sound_of_lem p h)).b_most
 
-module _ (v : Verdict) (p : Pool) (q : v ≡ Fine) where
-  pub begin_some : (w : WorkerNo) → verdict v ≡ begin_check p w → 1 ≤ w.0
-  begin_some w e = (begun p w (fine_by v e q)).worker.some
-
-  pub begin_at : (w : WorkerNo) → verdict v ≡ begin_check p w → w.0 - 1 < 8
-  begin_at w e = index (begun p w (fine_by v e q)).worker
-
-  pub begin_guards : (w : WorkerNo) → verdict v ≡ begin_check p w → p.g ≤ 32
-  begin_guards w e = (begun p w (fine_by v e q)).worker.sizes.g_most
-
-  pub begin_buffers : (w : WorkerNo) → verdict v ≡ begin_check p w → p.b ≤ 256
-  begin_buffers w e = (begun p w (fine_by v e q)).worker.sizes.b_most
-
-  pub fire_some : (w : WorkerNo) (g : GuardNo) → verdict v ≡ fire_check p w g → 1 ≤ w.0
-  fire_some w g e = (fires p w g (fine_by v e q)).begun.worker.some
-
-  pub fire_at : (w : WorkerNo) (g : GuardNo) → verdict v ≡ fire_check p w g → w.0 - 1 < 8
-  fire_at w g e = index (fires p w g (fine_by v e q)).begun.worker
-
-  pub fire_guard : (w : WorkerNo) (g : GuardNo) → verdict v ≡ fire_check p w g → g.0 < 32
-  fire_guard w g e = let f = fires p w g (fine_by v e q) in slot_index f.begun.worker f.guard
-
-  pub post_some : (w : WorkerNo) (g : GuardNo) (b : BufferId) → verdict v ≡ post_check p w g b → 1 ≤ w.0
-  post_some w g b e = (posts p w g b (fine_by v e q)).begun.worker.some
-
-  pub post_at : (w : WorkerNo) (g : GuardNo) (b : BufferId) → verdict v ≡ post_check p w g b → w.0 - 1 < 8
-  post_at w g b e = index (posts p w g b (fine_by v e q)).begun.worker
-
-  pub take_some : (b : BufferId) → verdict v ≡ take_check p b → 1 ≤ b.0
-  take_some b e = (takes p b (fine_by v e q)).buffer.some
-
-  pub take_at : (b : BufferId) → verdict v ≡ take_check p b → b.0 - 1 < 256
-  take_at b e = let t = takes p b (fine_by v e q) in state_index t.sizes t.buffer
-
-  pub ask_some : (w : WorkerNo) (b : BufferId) → verdict v ≡ ask_check p w b → 1 ≤ b.0
-  ask_some w b e = (asks p w b (fine_by v e q)).buffer.some
-
-  pub ask_at : (w : WorkerNo) (b : BufferId) → verdict v ≡ ask_check p w b → b.0 - 1 < 256
-  ask_at w b e = let a = asks p w b (fine_by v e q) in state_index a.begun.worker.sizes a.buffer
-
--- of two checks, one after the other
-pub guard_at : (v u : Verdict) (p : Pool) (w : WorkerNo) (g : GuardNo) → verdict v ≡ begin_check p w → v ≡ Fine → verdict u ≡ guard_check p w g
-    → u ≡ Fine → g.0 < 32
-guard_at v u p w g e q f r = slot_index (begun p w (fine_by v e q)).worker (employed p w g (fine_by u f r))
-
-pub ruleset indices = (guard_at, begin_some, begin_at, begin_guards, begin_buffers, fire_some, fire_at, fire_guard, post_some, post_at, ask_some, ask_at)
+pub few_to_name : (p : Pool) (w : WorkerNo) → begin_check p w ≡ fine → p.b ≤ 256
+few_to_name p w h = (begun p w h).worker.sizes.b_most

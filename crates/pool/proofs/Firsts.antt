@@ -1,10 +1,10 @@
 -- The laws of `first` and `first_below`: of each check, of a loop that asks entry by entry, and of a rule's tests. Assumes nothing.
 use mathlib.Core.Path.{◌≡◌, refl, sym, ap, ◌∙◌}
-use mathlib.Core.Bool.{Bool, true, false, not, ◌&&◌, ◌||◌, false≢true}
+use mathlib.Core.Bool.{Bool, true, false, ◌&&◌, false≢true}
 use Prim.Native.Nat.{ℕ, zero, suc, ◌+◌, ◌<◌}
 use native.Mathlib.Numerals.{add-one}
 use native.Mathlib.Omega.{arith}
-use Rattle.basics.specs.Pick.{when, unless}
+use Rattle.basics.specs.Pick.{unless}
 use Rattle.basics.specs.Below.{all_below}
 use Rattle.basics.proofs.All.{all_cong}
 use Rattle.basics.proofs.Truth.{by_order}
@@ -62,38 +62,20 @@ module _ (f : ℕ → Check) where
   pub first_done : (k n : ℕ) → first_below k f ≡ fine → k ≡ n → fine ≡ first_below n f
   first_done k n h e = cc
 
--- ---- the same of a rule's test: what the code found at entry k, by the rule's number as the code has it
+-- ---- the same of a rule's test: what the code found at entry k
 
-module _ (rule : ℕ) (place : ℕ → ℕ) (test : ℕ → ℕ → Bool) where
+module _ (rule : ℕ) (place : ℕ → ℕ) (test : ℕ → Bool) where
   abbrev asks : ℕ → Check
-  asks k = keeps rule (place k) (test rule k)
+  asks k = keeps rule (place k) (test k)
 
-  module _ (number k : ℕ) (passed : Bool) (so_far : first_below k asks ≡ fine) (e : passed ≡ test number k) (same : number ≡ rule) where
-    answered : passed ≡ test rule k
-    answered = e ∙ ap (λ (n : ℕ). test n k) same
-
+  module _ (k : ℕ) (passed : Bool) (so_far : first_below k asks ≡ fine) (e : passed ≡ test k) where
     pub search_again : passed ≡ true → first_below (k + 1) asks ≡ fine
     unfolding unless
-    search_again q = first_again asks k so_far (rw (sym answered ∙ q))
+    search_again q = first_again asks k so_far (rw (sym e ∙ q))
 
-    pub search_stop : (n at : ℕ) → at ≡ place k → k < n → passed ≡ false → refuse rule at ≡ first_below n asks
+    pub search_stop : (n : ℕ) → k < n → passed ≡ false → refuse rule (place k) ≡ first_below n asks
     unfolding unless
-    search_stop n at there l q = first_stop asks k n rule at so_far (rw (sym answered ∙ q, there)) l
-
--- the tests of several rules, each of which counts for its own alone
-pub asked_two : (a x y : Bool) → ((not a || x) && (a || y)) ≡ when a x y
-unfolding when
-asked_two true true y = refl
-asked_two true false y = refl
-asked_two false x y = refl
-
-pub asked_three : (a b x y z : Bool) → ((not a || x) && (a || not b || y) && (a || b || z)) ≡ when a x (when b y z)
-unfolding when
-asked_three true b true y z = refl
-asked_three true b false y z = refl
-asked_three false true x true z = refl
-asked_three false true x false z = refl
-asked_three false false x y z = refl
+    search_stop n l q = first_stop asks k n rule (place k) so_far (rw (sym e ∙ q)) l
 
 -- ---- nothing is refused exactly when every test holds
 

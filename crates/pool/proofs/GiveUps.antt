@@ -23,39 +23,34 @@ use Rattle.pool.specs.declared.Pool.{Pool}
 use Rattle.worker.specs.Registers.{to, with_i}
 use Rattle.pool.specs.Answers.{Check, fine, refuse, answering, accepted}
 use Rattle.pool.specs.Record.{state_of, worker_at, with_states, with_worker, with_set}
-use Rattle.pool.specs.Checks.{id_check, entry_check, list_check}
+use Rattle.pool.specs.Checks.{entry_check}
 use Rattle.pool.specs.Begins.{giving}
-use Rattle.pool.specs.ForProofs.Buffers.{buffers_alone, entry_by}
+use Rattle.pool.specs.ForProofs.Calls.{entry_by}
 use Rattle.pool.proofs.Told.{id_first}
 
 -- ---- the walk that judges
 
 -- entry k, of which the marks say whether an earlier one equals it
-pub entry_judged : (count : ℕ) (states ids : List ℕ) (k : ℕ) {s : IdSet} {again : Bool} {c : Check} → count ≤ 256 → s ≡ set_of (among_first ids k)
-    → again ≡ member_of s (get_or ids k 0) → c ≡ entry_by count states (get_or ids k 0) again k → c ≡ entry_check (buffers_alone count states) ids k
+pub entry_judged : (p : Pool) (ids : List ℕ) (k : ℕ) {s : IdSet} {again : Bool} {c : Check} → p.b ≤ 256 → s ≡ set_of (among_first ids k)
+    → again ≡ member_of s (get_or ids k 0) → c ≡ entry_by p (get_or ids k 0) again k → c ≡ entry_check p ids k
 unfolding entry_check when
-entry_judged count states ids k {s} {again} {c} few e h q =
-    q ∙ under (ltb id 1) refl (ltb count id) refl ∙ sym (id_first (buffers_alone count states) id k (rest (among_first ids k id)))
+entry_judged p ids k {s} {again} {c} few e h q =
+    q ∙ id_first p id k (rest again) ∙ under (ltb id 1) refl (ltb p.b id) refl ∙ sym (id_first p id k (rest (among_first ids k id)))
   where
     id : ℕ
     id = get_or ids k 0
 
     rest : Bool → Check
-    rest t = when t (refuse 10 k) (unless (eqb (get_or states (id - 1) 0) 1) (refuse 11 k) fine)
+    rest t = when t (refuse 10 k) (unless (eqb (state_of p id) 1) (refuse 11 k) fine)
 
-    under : (low : Bool) → ltb id 1 ≡ low → (high : Bool) → ltb count id ≡ high
+    under : (low : Bool) → ltb id 1 ≡ low → (high : Bool) → ltb p.b id ≡ high
         → when low (refuse 9 k) (when high (refuse 9 k) (rest again)) ≡ when low (refuse 9 k) (when high (refuse 9 k) (rest (among_first ids k id)))
     under true low high up = refl
     under false low true up = refl
     under false low false up =
         let lo = ltb-false id 1 low in
-        let hi = ltb-false count id up in
+        let hi = ltb-false p.b id up in
         ap rest (h ∙ met_before ids k e id (id_true id lo (omega arith)))
-
--- nothing else of the record is read
-pub list_judged : (p : Pool) (ids : List ℕ) (n : ℕ) {c : Check} → c ≡ list_check (buffers_alone p.b p.states) ids n → c ≡ list_check p ids n
-unfolding entry_check id_check
-list_judged p ids n e = e
 
 -- ---- one buffer leaves
 

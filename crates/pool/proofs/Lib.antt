@@ -13,5 +13,6 @@ pub mod GiveUps
 pub mod Audit
 -- for the code: the advance
 pub mod Handed
-pub mod Reached
+pub mod Slots
+pub mod Back
 pub mod Dispatch

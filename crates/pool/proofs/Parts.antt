@@ -1,6 +1,6 @@
 -- A sound record, rule by rule and array by array. Assumes nothing.
-use mathlib.Core.Path.{◌≡◌, sym, ap₂, ◌∙◌}
-use mathlib.Core.Bool.{Bool, true, not, ◌&&◌, ◌||◌, and_assoc}
+use mathlib.Core.Path.{◌≡◌, refl, sym, ap₂, ◌∙◌}
+use mathlib.Core.Bool.{Bool, true, false, not, ◌&&◌, ◌||◌, and_assoc}
 use mathlib.Core.List.{[], ◌∷◌}
 use Prim.Native.Nat.{ℕ, suc, ◌≤◌, ◌<◌}
 use native.Mathlib.Omega.{arith}
@@ -102,10 +102,17 @@ pub record Sizes (p : Pool) : Type 0 where
   pub b_most : p.b ≤ 256
   pub maxg_below : p.maxg < p.g
 
-pub sizes_of : (p : Pool) → sound_of p ≡ true → Sizes p
-sizes_of p h =
-    let e = each (leb 1 p.w) (leb p.w 8 ∷ leb 1 p.g ∷ leb p.g 32 ∷ leb 1 p.b ∷ leb p.b 256 ∷ ltb p.maxg p.g ∷ []) (parts h).counts in
+pub sizes_in : (p : Pool) → counts_sound p ≡ true → Sizes p
+sizes_in p h =
+    let e = each (leb 1 p.w) (leb p.w 8 ∷ leb 1 p.g ∷ leb p.g 32 ∷ leb 1 p.b ∷ leb p.b 256 ∷ ltb p.maxg p.g ∷ []) h in
     omega (arith, leb-true, ltb-true)
+
+pub sizes_of : (p : Pool) → sound_of p ≡ true → Sizes p
+sizes_of p h = sizes_in p (parts h).counts
+
+-- counts that are not are enough to say no
+pub unsound_counts : (p : Pool) → counts_sound p ≡ false → false ≡ sound_of p
+unsound_counts p h = sym (sound_tests p ∙ rw h refl)
 
 -- ---- a worker's ids and registers, as plain tests
 

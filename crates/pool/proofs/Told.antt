@@ -2,19 +2,17 @@
 use mathlib.Core.Path.{◌≡◌, refl, sym, ap, ◌∙◌}
 use Prim.Native.Nat.{ℕ}
 use mathlib.Core.Bool.{Bool, true, false}
-use lib.Dec.{eqb, ltb}
-use Rattle.basics.specs.Pick.{when, unless}
+use lib.Dec.{ltb}
+use Rattle.basics.specs.Pick.{when}
 use Rattle.basics.proofs.Picks.{picks}
-use Rattle.pool.specs.Sound.{sound_check}
-use Rattle.pool.specs.Checks.{worker_check, id_check, take_check}
-use Rattle.pool.specs.Record.{state_of}
+use Rattle.pool.specs.Checks.{id_check}
 use Rattle.pool.specs.declared.Pool.{Pool}
-use Rattle.pool.specs.declared.WorkerNo.{WorkerNo}
-use Rattle.pool.specs.declared.BufferId.{BufferId}
-use Rattle.pool.specs.declared.Refusal.{Refusal}
-use Rattle.pool.specs.declared.Verdict.{Verdict}
-use Rattle.pool.specs.declared.Verdict.TheVariants.{Fine, Fault}
-use Rattle.pool.specs.Answers.{Said, Told, Check, fine, refuse, number_of, verdict, first, after_check, answer_after, answering, refused}
+use Rattle.std.specs.Prelude.{Result, Ok, Err, IsErrAnd}
+use Rattle.pool.specs.declared.Answer.{Answer}
+use Rattle.pool.specs.declared.Answer.TheVariants.{Refused as RefusedAt}
+use Rattle.pool.specs.ForProofs.Calls.{answered}
+use Rattle.pool.specs.declared.Refused.{Refused}
+use Rattle.pool.specs.Answers.{Said, said, Told, Check, fine, refuse, number_of, verdict, first, after_check, answer_after, answering, refused}
 
 -- the record that a callee made
 pub same_pool : (a : Said) (p q : Pool) → p ≡ q → answering a p ≡ answering a q
@@ -23,62 +21,102 @@ same_pool a p q e = rw e
 pub same_answer : (a b : Said) (p : Pool) → a ≡ b → answering a p ≡ answering b p
 same_answer a b p e = rw e
 
+-- a refusal that the code made, by its number and place
+pub same_refusal : (a b x y : ℕ) → a ≡ b → x ≡ y → refuse a x ≡ refuse b y
+same_refusal a b x y e h = rw (e, h)
+
+pub same_refused : (a b x y : ℕ) (p q : Pool) → a ≡ b → x ≡ y → p ≡ q → answering (refused a x) p ≡ answering (refused b y) q
+same_refused a b x y p q e h g = rw (e, h, g)
+
 -- ---- a check that was called answered v: what it found
 
-module _ (v : Verdict) {s : Check} (e : verdict v ≡ s) where
-  pub fine_by : v ≡ Fine → s ≡ fine
+module _ {A : Type 0} (v : Result A Refused) {s : Check} (e : verdict v ≡ s) where
+  pub fine_by : {y : A} → v ≡ Ok y → s ≡ fine
   fine_by q = sym e ∙ ap verdict q
 
-  pub refuse_by : (r : Refusal) (place : ℕ) → v ≡ Fault r place → s ≡ refuse (number_of r) place
-  refuse_by r place q = sym e ∙ ap verdict q
-
-pub fine_told : (v : Verdict) → v ≡ Fine → verdict v ≡ fine
-fine_told v q = ap verdict q
+  pub refuse_by : {r : Refused} → v ≡ Err r → s ≡ refuse (number_of r.refusal) r.place
+  refuse_by q = sym e ∙ ap verdict q
 
 -- ---- what follows a check, by what the check found
 
-pub first_fine : (v : Verdict) (x a b : Check) → verdict v ≡ a → v ≡ Fine → x ≡ b → x ≡ first a b
-unfolding first
-first_fine v x a b e q h = rw (fine_by v e q) h
+module _ {A : Type 0} (v : Result A Refused) where
+  pub first_fine : {y : A} (x a b : Check) → verdict v ≡ a → v ≡ Ok y → x ≡ b → x ≡ first a b
+  unfolding first
+  first_fine x a b e q h = rw (fine_by v e q) h
 
-pub first_refuse : (v : Verdict) (r : Refusal) (place : ℕ) (a b : Check) → verdict v ≡ a → v ≡ Fault r place → refuse (number_of r) place ≡ first a b
-unfolding first
-first_refuse v r place a b e q = rw (refuse_by v e r place q)
+  pub first_refuse : {r : Refused} (a b : Check) → verdict v ≡ a → v ≡ Err r → refuse (number_of r.refusal) r.place ≡ first a b
+  unfolding first
+  first_refuse a b e q = rw (refuse_by v e q)
 
-pub after_fine : (v : Verdict) (x : Told) (a : Check) (p : Pool) (d : Told) → verdict v ≡ a → v ≡ Fine → x ≡ d → x ≡ after_check a p d
-unfolding after_check
-after_fine v x a p d e q h = rw (fine_by v e q) h
+  pub after_fine : {y : A} (x : Told) (a : Check) (p : Pool) (d : Told) → verdict v ≡ a → v ≡ Ok y → x ≡ d → x ≡ after_check a p d
+  unfolding after_check
+  after_fine x a p d e q h = rw (fine_by v e q) h
 
-pub after_refuse : (v : Verdict) (r : Refusal) (place : ℕ) (a : Check) (p : Pool) (d : Told) → verdict v ≡ a → v ≡ Fault r place
-    → answering (refused (number_of r) place) p ≡ after_check a p d
-unfolding after_check
-after_refuse v r place a p d e q = rw (refuse_by v e r place q)
+  pub after_refuse : {r : Refused} (a : Check) (p : Pool) (d : Told) → verdict v ≡ a → v ≡ Err r
+      → answering (refused (number_of r.refusal) r.place) p ≡ after_check a p d
+  unfolding after_check
+  after_refuse a p d e q = rw (refuse_by v e q)
+
+  pub answer_fine : {y : A} (x : Said) (a : Check) (s : Said) → verdict v ≡ a → v ≡ Ok y → x ≡ s → x ≡ answer_after a s
+  unfolding answer_after
+  answer_fine x a s e q h = rw (fine_by v e q) h
+
+  pub answer_refuse : {r : Refused} (a : Check) (s : Said) → verdict v ≡ a → v ≡ Err r → refused (number_of r.refusal) r.place ≡ answer_after a s
+  unfolding answer_after
+  answer_refuse a s e q = rw (refuse_by v e q)
+
+-- ---- what `?` hands on is what the check answered
+
+module _ {A : Type 0} where
+  pub handed_on : (r : Result A Refused) (e : Refused) → IsErrAnd r (λ x. x ≡ e) → r ≡ Err e
+  handed_on (Ok x) e h = elim h [ ]
+  handed_on (Err x) e h = ap Err h
+
+module _ {A B : Type 0} {v : Result A Refused} (r : Result B Refused) {e : Refused} (failed : v ≡ Err e) (on : IsErrAnd r (λ x. x ≡ e)) {a : Check} (h : verdict v ≡ a) where
+  pub check_on : verdict r ≡ a
+  check_on = ap verdict (handed_on r e on) ∙ sym (refuse_by v h failed)
+
+  pub first_on : (b : Check) → verdict r ≡ first a b
+  first_on b = ap verdict (handed_on r e on) ∙ first_refuse v a b h failed
+
+module _ {A : Type 0} {v : Result A Refused} (r : Result Answer Refused) {e : Refused} (failed : v ≡ Err e) (on : IsErrAnd r (λ x. x ≡ e)) {a : Check} (h : verdict v ≡ a) where
+  pub after_on : (p : Pool) (d : Told) → answering (answered r) p ≡ after_check a p d
+  after_on p d = rw (handed_on r e on) (after_refuse v a p d h failed)
+
+module _ {A : Type 0} (v : Result A Refused) (x : Answer) {r : Refused} where
+  pub answer_into : (a : Check) (s : Said) → v ≡ Err r → verdict v ≡ a → x ≡ RefusedAt r.refusal r.place → said x ≡ answer_after a s
+  answer_into a s q e made = ap said made ∙ answer_refuse v a s e q
+
+  pub after_into : (a : Check) (p : Pool) (d : Told) → v ≡ Err r → verdict v ≡ a → x ≡ RefusedAt r.refusal r.place → answering (said x) p ≡ after_check a p d
+  after_into a p d q e made = rw made (after_refuse v a p d e q)
 
 -- the same of two checks, of which the first that refuses counts
-module _ (v : Verdict) (a b : Check) (p : Pool) (d : Told) (e : verdict v ≡ a) where
-  pub after_first : (r : Refusal) (place : ℕ) → v ≡ Fault r place → answering (refused (number_of r) place) p ≡ after_check (first a b) p d
+module _ {A B : Type 0} (v : Result A Refused) (u : Result B Refused) (a b : Check) (p : Pool) (d : Told) (e : verdict v ≡ a) where
+  pub after_first : {r : Refused} → v ≡ Err r → answering (refused (number_of r.refusal) r.place) p ≡ after_check (first a b) p d
   unfolding first after_check
-  after_first r place q = rw (refuse_by v e r place q)
+  after_first q = rw (refuse_by v e q)
 
-  module _ (u : Verdict) (h : verdict u ≡ b) (q : v ≡ Fine) where
+  module _ (h : verdict u ≡ b) {y : A} (q : v ≡ Ok y) where
     both : b ≡ first a b
     unfolding first
     both = rw (fine_by v e q)
 
-    pub after_second : (r : Refusal) (place : ℕ) → u ≡ Fault r place → answering (refused (number_of r) place) p ≡ after_check (first a b) p d
-    after_second r place t = after_refuse u r place (first a b) p d (h ∙ both) t
+    pub after_second : {r : Refused} → u ≡ Err r → answering (refused (number_of r.refusal) r.place) p ≡ after_check (first a b) p d
+    after_second t = after_refuse u (first a b) p d (h ∙ both) t
 
-    pub after_both : (x : Told) → u ≡ Fine → x ≡ d → x ≡ after_check (first a b) p d
+    pub after_both : {z : B} (x : Told) → u ≡ Ok z → x ≡ d → x ≡ after_check (first a b) p d
     after_both x t = after_fine u x (first a b) p d (h ∙ both) t
 
-pub answer_fine : (v : Verdict) (x : Said) (a : Check) (s : Said) → verdict v ≡ a → v ≡ Fine → x ≡ s → x ≡ answer_after a s
-unfolding answer_after
-answer_fine v x a s e q h = rw (fine_by v e q) h
+-- ---- after a check, by what it found
 
-pub answer_refuse : (v : Verdict) (r : Refusal) (place : ℕ) (a : Check) (s : Said) → verdict v ≡ a → v ≡ Fault r place
-    → refused (number_of r) place ≡ answer_after a s
-unfolding answer_after
-answer_refuse v r place a s e q = rw (refuse_by v e r place q)
+module _ {c : Check} where
+  pub after_is : {x : Told} (p : Pool) (d : Told) → c ≡ fine → x ≡ d → x ≡ after_check c p d
+  unfolding after_check
+  after_is p d e h = rw e h
+
+  pub after_stops : {n place : ℕ} (p : Pool) (d : Told) → c ≡ refuse n place → answering (refused n place) p ≡ after_check c p d
+  unfolding after_check
+  after_stops p d e = rw e
 
 -- the check of an id alone
 pub id_first : (p : Pool) (id place : ℕ) (b : Check)
@@ -92,27 +130,10 @@ id_first p id place b = go (ltb id 1) (ltb p.b id)
     go false true = refl
     go false false = refl
 
--- ---- a verdict on numbers of the record is the check of the record
-
--- what the check of a worker's number finds after a verdict
-abbrev pub NumberFound : Verdict → Verdict → Pool → WorkerNo → Type 0
-NumberFound v s p w = verdict v ≡ first (verdict s) (when (ltb w.0 1) (refuse 3 0) (when (ltb p.w w.0) (refuse 3 0) fine))
-
-pub judged : (v s : Verdict) (p : Pool) (w : WorkerNo) → NumberFound v s p w → verdict s ≡ sound_check p → verdict v ≡ worker_check p w
-unfolding worker_check
-judged v s p w h e = rw e at h
-
-pub take_judged : (v s : Verdict) (p : Pool) (b : BufferId)
-    → verdict v ≡ first (verdict s) (when (ltb b.0 1) (refuse 9 0) (when (ltb p.b b.0) (refuse 9 0)
-    (unless (eqb (state_of p b.0) 0) (refuse 11 0) fine))) → verdict s ≡ sound_check p
-    → verdict v ≡ take_check p b
-unfolding take_check
-take_judged v s p b h e = rw id_first (rw e at h)
-
 pub ruleset makes = (picks, same_pool)
 
-pub ruleset checks = (picks, first_fine, first_refuse)
+pub ruleset checks = (picks, same_refusal, first_fine, first_refuse)
 
-pub ruleset begins = (picks, after_fine, after_refuse, same_pool, same_answer)
+pub ruleset begins = (picks, after_fine, after_refuse, after_into, same_pool, same_answer, same_refused)
 
-pub ruleset answers = (picks, answer_fine, answer_refuse)
+pub ruleset answers = (picks, answer_fine, answer_refuse, answer_into)

@@ -1,13 +1,12 @@
 -- Each answer in the paper's numbers and values. The rules of every call speak in these; a contract says what the code's answer is by `said`.
-use Rattle.std.specs.Prelude.{ℕ, zero, suc, Bool, true, false}
+use Rattle.std.specs.Prelude.{ℕ, zero, suc, Bool, true, false, Result, Ok, Err}
 use Rattle.pool.specs.declared.Pool.{Pool}
 use Rattle.pool.specs.declared.Outcome.{Outcome}
 use Rattle.pool.specs.declared.Refusal.{Refusal}
 use Rattle.pool.specs.declared.Refusal.TheVariants.{SizesOutOfRange, CountsOutOfRange, EntryBeyondCounts, KindUnknown, IdOutOfRange, RegisterOutOfRange, NoSuchWorker, WorkerNotIdle, WorkerIdle, NoSuchGuard, GuardNotEmployed, GuardPosted, NoSuchBuffer, BufferRepeated, BufferInWrongState, VersionsUsedUp, ListTooShort, MemberNotLeaving}
-use Rattle.pool.specs.declared.Verdict.{Verdict}
-use Rattle.pool.specs.declared.Verdict.TheVariants.{Fine, Fault as Faulty}
+use Rattle.pool.specs.declared.Refused.{Refused}
 use Rattle.pool.specs.declared.Answer.{Answer}
-use Rattle.pool.specs.declared.Answer.TheVariants.{Accepted, Yes, No, At, Hired, NoneFound, Fired, Posted, Back, Count, Clear, Fault, Refused}
+use Rattle.pool.specs.declared.Answer.TheVariants.{Accepted, Yes, No, At, Hired, NoneFound, Fired, Posted, Back, Count, Clear, Fault, Refused as RefusedAt}
 
 -- the table of refusal numbers
 abbrev pub number_of : Refusal → ℕ
@@ -52,7 +51,7 @@ said (Back n) = back n
 said (Count n) = count n
 said Clear = clear
 said (Fault b n) = fault b.0 n
-said (Refused r place) = refused (number_of r) place
+said (RefusedAt r place) = refused (number_of r) place
 
 -- what a call answers, and the record that it hands back
 pub record Told : Type 0 where
@@ -72,9 +71,10 @@ pub data Check : Type 0 where
   fine : Check
   refuse : ℕ → ℕ → Check
 
-abbrev pub verdict : Verdict → Check
-verdict Fine = fine
-verdict (Faulty r place) = refuse (number_of r) place
+-- what the code's check answers, with or without an entry that it found
+abbrev pub verdict : {A : Type 0} → Result A Refused → Check
+verdict (Ok a) = fine
+verdict (Err r) = refuse (number_of r.refusal) r.place
 
 -- the first of two checks that refuses
 unfoldable pub first : Check → Check → Check

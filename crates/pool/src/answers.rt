@@ -1,8 +1,10 @@
-// The answers in the paper's numbers.
+// The answers in the paper's numbers, and what is answered of a call.
 ghost use Rattle.std.specs.Prelude.{◌≡◌};
-ghost use Rattle.pool.specs.Answers.{number_of};
+ghost use Rattle.pool.specs.Answers.{said, number_of};
+ghost use Rattle.pool.specs.declared.Answer.TheVariants.{Refused as RefusedAt};
+ghost use Rattle.pool.specs.ForProofs.Calls.{answered};
 
-use crate::Refusal;
+use crate::{Answer, Refusal, Refused};
 
 impl Refusal {
     pub fn number(self) -> u32
@@ -28,5 +30,32 @@ impl Refusal {
             Refusal::ListTooShort => 13,
             Refusal::MemberNotLeaving => 14,
         }
+    }
+
+    pub(crate) fn at(self, place: usize) -> Refused
+        ensures refusal { number_of result.refusal ≡ number_of self }
+        ensures place { result.place ≡ place }
+    {
+        Refused {
+            refusal: self,
+            place,
+        }
+    }
+}
+
+impl From<Refused> for Answer {
+    ghost from_gives = { λ r a. a ≡ RefusedAt r.refusal r.place };
+
+    fn from(refused: Refused) -> Answer {
+        Answer::Refused(refused.refusal, refused.place)
+    }
+}
+
+pub(crate) fn answer_of(done: Result<Answer, Refused>) -> Answer
+    ensures { said result ≡ answered done }
+{
+    match done {
+        Ok(answer) => answer,
+        Err(refused) => Answer::from(refused),
     }
 }

@@ -1,153 +1,127 @@
-// The begins. Each hands back the record as it then is; a refused one hands back the record that came in.
+// The begins, take and ask. Each works on the record where it stands, and a check that refuses leaves it so; the public call takes the
+// record by value and hands it back.
 ghost use Rattle.std.specs.Prelude.{◌≡◌};
-ghost use Rattle.pool.specs.Answers.{told};
+ghost use Rattle.pool.specs.Answers.{told, answering};
 ghost use Rattle.pool.specs.Begins.{hire_of, fire_of, post_of, give_up_of, take_of, ask_of};
+ghost use Rattle.pool.specs.ForProofs.Calls.{answered};
 
-use crate::checks::take_verdict;
-use crate::lists::{leaving, list_check};
-use crate::{Answer, BufferId, GuardNo, Outcome, Pool, Verdict, WorkerNo};
+use crate::answers::answer_of;
+use crate::lists::leaving;
+use crate::{Answer, BufferId, GuardNo, Outcome, Pool, Refused, WorkerNo};
+use worker::Worker;
 
 impl Pool {
     pub fn hire(mut self, w: WorkerNo) -> Outcome
         ensures { told result ≡ hire_of self w }
     {
-        let check = self.begin_check(w);
-        if let Verdict::Fault(refusal, place) = check {
-            return Outcome {
-                answer: Answer::Refused(refusal, place),
-                pool: self,
-            };
-        }
-        let k = (w.0 - 1) as usize;
-        let mut me = self.workers[k];
-        me.i = 0;
-        me.label = 2;
-        self.workers[k] = me;
-        Outcome {
-            answer: Answer::Accepted,
-            pool: self,
-        }
+        let answer = answer_of(self.begin_hire(w));
+        Outcome { answer, pool: self }
+    }
+
+    #[tactic(auto, using(crate::proofs::Told::begins), unfolding(crate::specs::Begins::hire_of))]
+    fn begin_hire(&mut self, w: WorkerNo) -> Result<Answer, Refused>
+        ensures { answering (answered result) self.new ≡ hire_of self.old w }
+    {
+        let k = self.begin_check(w)?;
+        self.workers[k] = Worker {
+            i: 0,
+            label: 2,
+            ..self.workers[k]
+        };
+        Ok(Answer::Accepted)
     }
 
     pub fn fire(mut self, w: WorkerNo, g: GuardNo) -> Outcome
         ensures { told result ≡ fire_of self w g }
     {
-        let check = self.fire_check(w, g);
-        if let Verdict::Fault(refusal, place) = check {
-            return Outcome {
-                answer: Answer::Refused(refusal, place),
-                pool: self,
-            };
-        }
-        let i = g.0 as usize;
+        let answer = answer_of(self.begin_fire(w, g));
+        Outcome { answer, pool: self }
+    }
+
+    #[tactic(auto, using(crate::proofs::Told::begins), unfolding(crate::specs::Begins::fire_of))]
+    fn begin_fire(&mut self, w: WorkerNo, g: GuardNo) -> Result<Answer, Refused>
+        ensures { answering (answered result) self.new ≡ fire_of self.old w g }
+    {
+        let (k, i) = self.fire_check(w, g)?;
         self.employer[i] = 0;
-        let k = (w.0 - 1) as usize;
-        let mut me = self.workers[k];
-        me.i = g.0;
-        me.label = 7;
-        self.workers[k] = me;
-        Outcome {
-            answer: Answer::Accepted,
-            pool: self,
-        }
+        self.workers[k] = Worker {
+            i: g.0,
+            label: 7,
+            ..self.workers[k]
+        };
+        Ok(Answer::Accepted)
     }
 
     // Buffer 0 stands the guard down.
     pub fn post(mut self, w: WorkerNo, g: GuardNo, b: BufferId) -> Outcome
         ensures { told result ≡ post_of self w g b }
     {
-        let check = self.post_check(w, g, b);
-        if let Verdict::Fault(refusal, place) = check {
-            return Outcome {
-                answer: Answer::Refused(refusal, place),
-                pool: self,
-            };
-        }
-        let k = (w.0 - 1) as usize;
-        let mut me = self.workers[k];
-        me.i = g.0;
-        me.v = b.0;
-        me.label = 9;
-        self.workers[k] = me;
-        Outcome {
-            answer: Answer::Accepted,
-            pool: self,
-        }
+        let answer = answer_of(self.begin_post(w, g, b));
+        Outcome { answer, pool: self }
+    }
+
+    #[tactic(auto, using(crate::proofs::Told::begins), unfolding(crate::specs::Begins::post_of))]
+    fn begin_post(&mut self, w: WorkerNo, g: GuardNo, b: BufferId) -> Result<Answer, Refused>
+        ensures { answering (answered result) self.new ≡ post_of self.old w g b }
+    {
+        let k = self.post_check(w, g, b)?;
+        self.workers[k] = Worker {
+            i: g.0,
+            v: b.0,
+            label: 9,
+            ..self.workers[k]
+        };
+        Ok(Answer::Accepted)
     }
 
     // The empty list is accepted: it collects what slots hold.
     pub fn give_up(mut self, w: WorkerNo, ids: &[u32]) -> Outcome
         ensures { told result ≡ give_up_of self w ids.now }
     {
-        let begin = self.begin_check(w);
-        if let Verdict::Fault(refusal, place) = begin {
-            return Outcome {
-                answer: Answer::Refused(refusal, place),
-                pool: self,
-            };
-        }
-        let list = list_check(self.b, &self.states, ids);
-        let check = list.check;
-        if let Verdict::Fault(refusal, place) = check {
-            return Outcome {
-                answer: Answer::Refused(refusal, place),
-                pool: self,
-            };
-        }
+        let answer = answer_of(self.begin_give_up(w, ids));
+        Outcome { answer, pool: self }
+    }
+
+    fn begin_give_up(&mut self, w: WorkerNo, ids: &[u32]) -> Result<Answer, Refused>
+        ensures { answering (answered result) self.new ≡ give_up_of self.old w ids.now }
+    {
+        let k = self.begin_check(w)?;
+        let set = self.list_check(ids)?;
         leaving(&mut self.states, ids);
-        let k = (w.0 - 1) as usize;
-        let set = list.met;
         self.sets[k] = set;
-        let mut me = self.workers[k];
-        me.i = 0;
-        me.label = 12;
-        self.workers[k] = me;
-        Outcome {
-            answer: Answer::Accepted,
-            pool: self,
-        }
+        self.workers[k] = Worker {
+            i: 0,
+            label: 12,
+            ..self.workers[k]
+        };
+        Ok(Answer::Accepted)
     }
 
     pub fn take(mut self, b: BufferId) -> Outcome
         ensures { told result ≡ take_of self b }
     {
-        let sound = self.soundness();
-        let check = take_verdict(sound, self.b, &self.states, b);
-        if let Verdict::Fault(refusal, place) = check {
-            return Outcome {
-                answer: Answer::Refused(refusal, place),
-                pool: self,
-            };
-        }
-        let at = (b.0 - 1) as usize;
-        self.states[at] = 1;
-        Outcome {
-            answer: Answer::Accepted,
-            pool: self,
-        }
+        let answer = answer_of(self.take_buffer(b));
+        Outcome { answer, pool: self }
     }
 
+    #[tactic(auto, using(crate::proofs::Told::begins), unfolding(crate::specs::Begins::take_of))]
+    fn take_buffer(&mut self, b: BufferId) -> Result<Answer, Refused>
+        ensures { answering (answered result) self.new ≡ take_of self.old b }
+    {
+        let at = self.take_check(b)?;
+        self.states[at] = 1;
+        Ok(Answer::Accepted)
+    }
+
+    #[tactic(auto, using(crate::proofs::Told::begins), unfolding(crate::specs::Begins::ask_of))]
     pub fn ask(self, w: WorkerNo, b: BufferId) -> Outcome
         ensures { told result ≡ ask_of self w b }
     {
-        let check = self.ask_check(w, b);
-        if let Verdict::Fault(refusal, place) = check {
-            return Outcome {
-                answer: Answer::Refused(refusal, place),
-                pool: self,
-            };
-        }
-        let at = (b.0 - 1) as usize;
-        if self.states[at] == 1 {
-            Outcome {
-                answer: Answer::Yes,
-                pool: self,
-            }
-        } else {
-            Outcome {
-                answer: Answer::No,
-                pool: self,
-            }
-        }
+        let answer = match self.ask_check(w, b) {
+            Ok(at) if self.states[at] == 1 => Answer::Yes,
+            Ok(_) => Answer::No,
+            Err(refused) => Answer::from(refused),
+        };
+        Outcome { answer, pool: self }
     }
 }

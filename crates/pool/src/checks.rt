@@ -1,168 +1,112 @@
-// What is wrong with a call's record and arguments, in the order of the paper's table.
-ghost use Rattle.std.specs.Prelude.{◌≡◌, ◌≤◌, ◌-◌, eqb, ltb, get_or};
-ghost use Rattle.basics.specs.Pick.{when, unless};
-ghost use Rattle.pool.specs.Answers.{verdict, fine, refuse, first};
-ghost use Rattle.pool.specs.Checks.{begin_check, guard_check, id_check, fire_check, post_check, ask_check};
+// What is wrong with a call's record and arguments, in the order of the paper's table; where nothing is, the entries that the arguments name.
+ghost use Rattle.std.specs.Prelude.{◌≡◌, ◌<◌, ◌≤◌, ◌-◌, IfOk};
+ghost use Rattle.pool.specs.Answers.{verdict};
+ghost use Rattle.pool.specs.Checks.{worker_check, begin_check, guard_check, id_check, fire_check, post_check, take_check, ask_check};
 
-use crate::sound::parts_check;
-use crate::{BufferId, GuardNo, Pool, Refusal, Verdict, WorkerNo};
-
-// 21 to 25, 3, from what the soundness test found and how many workers the record has.
-pub(crate) fn worker_verdict(sound: Verdict, count: u32, w: WorkerNo) -> Verdict
-    ensures { verdict result ≡ first (verdict sound) (when (ltb w.0 1) (refuse 3 0) (when (ltb count w.0) (refuse 3 0) fine)) }
-{
-    if let Verdict::Fault(rule, place) = sound {
-        return Verdict::Fault(rule, place);
-    }
-    let no = w.0;
-    if no < 1 {
-        return Verdict::Fault(Refusal::NoSuchWorker, 0);
-    }
-    if count < no {
-        return Verdict::Fault(Refusal::NoSuchWorker, 0);
-    }
-    Verdict::Fine
-}
-
-// 21 to 25, 9, 11, from what the soundness test found, how many buffers the record has and their states.
-pub(crate) fn take_verdict(sound: Verdict, count: u32, states: &[u8; 256], b: BufferId) -> Verdict
-    requires { verdict sound ≡ fine → count ≤ 256 }
-    ensures { verdict result ≡ first (verdict sound) (when (ltb b.0 1) (refuse 9 0) (when (ltb count b.0) (refuse 9 0) (unless (eqb (get_or states.now (b.0 - 1) 0) 0) (refuse 11 0) fine))) }
-{
-    if let Verdict::Fault(rule, place) = sound {
-        return Verdict::Fault(rule, place);
-    }
-    let id = b.0;
-    if id < 1 {
-        return Verdict::Fault(Refusal::NoSuchBuffer, 0);
-    }
-    if count < id {
-        return Verdict::Fault(Refusal::NoSuchBuffer, 0);
-    }
-    let at = (id - 1) as usize;
-    if states[at] == 0 {
-        Verdict::Fine
-    } else {
-        Verdict::Fault(Refusal::BufferInWrongState, 0)
-    }
-}
+use crate::{BufferId, GuardNo, Pool, Refusal, Refused, WorkerNo};
 
 impl Pool {
-    // 21 to 25, 3, 4.
-    pub(crate) fn begin_check(self, w: WorkerNo) -> Verdict
-        ensures { verdict result ≡ begin_check self w }
+    // 21 to 25, 3.
+    #[tactic(auto, using(crate::proofs::Told::checks), unfolding(crate::specs::Checks::worker_check))]
+    pub(crate) fn worker_check(&self, w: WorkerNo) -> Result<usize, Refused>
+        ensures check { verdict result ≡ worker_check self.now w }
+        ensures entry { IfOk result (λ k. (k < 8) × (k ≡ w.0 - 1)) }
     {
-        let workers = self.workers;
-        let sets = self.sets;
-        let sound = parts_check(
-            self.w,
-            self.g,
-            self.b,
-            self.maxg,
-            &self.taken,
-            &self.employer,
-            &self.posted,
-            &self.slot_id,
-            &self.slot_version,
-            &self.states,
-            workers,
-            sets,
-        );
-        let check = worker_verdict(sound, self.w, w);
-        match check {
-            Verdict::Fault(refusal, place) => Verdict::Fault(refusal, place),
-            Verdict::Fine => {
-                let k = (w.0 - 1) as usize;
-                let me = self.workers[k];
-                if me.label == 0 {
-                    Verdict::Fine
-                } else {
-                    Verdict::Fault(Refusal::WorkerNotIdle, 0)
-                }
-            }
+        self.sound_check()?;
+        if w.0 < 1 || self.w < w.0 {
+            return Err(Refusal::NoSuchWorker.at(0));
         }
+        Ok((w.0 - 1) as usize)
+    }
+
+    // 21 to 25, 3, 4.
+    #[tactic(auto, using(crate::proofs::Told::checks), unfolding(crate::specs::Checks::begin_check))]
+    pub(crate) fn begin_check(&self, w: WorkerNo) -> Result<usize, Refused>
+        ensures check { verdict result ≡ begin_check self.now w }
+        ensures entry { IfOk result (λ k. (k < 8) × (k ≡ w.0 - 1)) }
+    {
+        let k = self.worker_check(w)?;
+        if self.workers[k].label != 0 {
+            return Err(Refusal::WorkerNotIdle.at(0));
+        }
+        Ok(k)
     }
 
     // 6, 7.
-    fn guard_check(self, w: WorkerNo, g: GuardNo) -> Verdict
-        requires { self.g ≤ 32 }
-        ensures { verdict result ≡ guard_check self w g }
+    #[tactic(auto, using(crate::proofs::Told::checks), unfolding(crate::specs::Checks::guard_check))]
+    fn guard_check(&self, w: WorkerNo, g: GuardNo) -> Result<usize, Refused>
+        requires { self.now.g ≤ 32 }
+        ensures check { verdict result ≡ guard_check self.now w g }
+        ensures entry { IfOk result (λ i. (i < 32) × (i ≡ g.0)) }
     {
-        let no = g.0;
-        if self.g <= no {
-            return Verdict::Fault(Refusal::NoSuchGuard, 0);
+        if self.g <= g.0 {
+            return Err(Refusal::NoSuchGuard.at(0));
         }
-        let i = no as usize;
-        if self.employer[i] == w.0 {
-            Verdict::Fine
-        } else {
-            Verdict::Fault(Refusal::GuardNotEmployed, 0)
+        let i = g.0 as usize;
+        if self.employer[i] != w.0 {
+            return Err(Refusal::GuardNotEmployed.at(0));
         }
+        Ok(i)
     }
 
     // 9.
-    fn id_check(self, id: u32) -> Verdict
-        ensures { verdict result ≡ id_check self id 0 }
+    #[tactic(auto, using(crate::proofs::Told::checks), unfolding(crate::specs::Checks::id_check))]
+    pub(crate) fn id_check(&self, id: u32, place: usize) -> Result<usize, Refused>
+        requires { self.now.b ≤ 256 }
+        ensures check { verdict result ≡ id_check self.now id place }
+        ensures entry { IfOk result (λ at. (at < 256) × (at ≡ id - 1)) }
     {
-        if id < 1 {
-            return Verdict::Fault(Refusal::NoSuchBuffer, 0);
+        if id < 1 || self.b < id {
+            return Err(Refusal::NoSuchBuffer.at(place));
         }
-        if self.b < id {
-            return Verdict::Fault(Refusal::NoSuchBuffer, 0);
-        }
-        Verdict::Fine
+        Ok((id - 1) as usize)
     }
 
-    pub(crate) fn fire_check(self, w: WorkerNo, g: GuardNo) -> Verdict
-        ensures { verdict result ≡ fire_check self w g }
+    #[tactic(auto, using(crate::proofs::Told::checks), unfolding(crate::specs::Checks::fire_check))]
+    pub(crate) fn fire_check(&self, w: WorkerNo, g: GuardNo) -> Result<(usize, usize), Refused>
+        ensures check { verdict result ≡ fire_check self.now w g }
+        ensures entries { IfOk result (λ e. (e.0 < 8) × (e.0 ≡ w.0 - 1) × (e.1 < 32) × (e.1 ≡ g.0)) }
     {
-        let begin = self.begin_check(w);
-        match begin {
-            Verdict::Fault(refusal, place) => Verdict::Fault(refusal, place),
-            Verdict::Fine => {
-                let guard = self.guard_check(w, g);
-                match guard {
-                    Verdict::Fault(refusal, place) => Verdict::Fault(refusal, place),
-                    Verdict::Fine => {
-                        let i = g.0 as usize;
-                        if self.posted[i] == 0 {
-                            Verdict::Fine
-                        } else {
-                            Verdict::Fault(Refusal::GuardPosted, 0)
-                        }
-                    }
-                }
-            }
+        let k = self.begin_check(w)?;
+        let i = self.guard_check(w, g)?;
+        if self.posted[i] != 0 {
+            return Err(Refusal::GuardPosted.at(0));
         }
+        Ok((k, i))
     }
 
-    pub(crate) fn post_check(self, w: WorkerNo, g: GuardNo, b: BufferId) -> Verdict
-        ensures { verdict result ≡ post_check self w g b }
+    #[tactic(auto, using(crate::proofs::Told::checks), unfolding(crate::specs::Checks::post_check))]
+    pub(crate) fn post_check(&self, w: WorkerNo, g: GuardNo, b: BufferId) -> Result<usize, Refused>
+        ensures check { verdict result ≡ post_check self.now w g b }
+        ensures entry { IfOk result (λ k. (k < 8) × (k ≡ w.0 - 1)) }
     {
-        let begin = self.begin_check(w);
-        match begin {
-            Verdict::Fault(refusal, place) => Verdict::Fault(refusal, place),
-            Verdict::Fine => {
-                let guard = self.guard_check(w, g);
-                match guard {
-                    Verdict::Fault(refusal, place) => Verdict::Fault(refusal, place),
-                    Verdict::Fine => if self.b < b.0 {
-                        Verdict::Fault(Refusal::NoSuchBuffer, 0)
-                    } else {
-                        Verdict::Fine
-                    },
-                }
-            }
+        let k = self.begin_check(w)?;
+        self.guard_check(w, g)?;
+        if self.b < b.0 {
+            return Err(Refusal::NoSuchBuffer.at(0));
         }
+        Ok(k)
     }
 
-    pub(crate) fn ask_check(self, w: WorkerNo, b: BufferId) -> Verdict
-        ensures { verdict result ≡ ask_check self w b }
+    #[tactic(auto, using(crate::proofs::Told::checks), unfolding(crate::specs::Checks::take_check))]
+    pub(crate) fn take_check(&self, b: BufferId) -> Result<usize, Refused>
+        ensures check { verdict result ≡ take_check self.now b }
+        ensures entry { IfOk result (λ at. (at < 256) × (at ≡ b.0 - 1)) }
     {
-        let begin = self.begin_check(w);
-        match begin {
-            Verdict::Fault(refusal, place) => Verdict::Fault(refusal, place),
-            Verdict::Fine => self.id_check(b.0),
+        self.sound_check()?;
+        let at = self.id_check(b.0, 0)?;
+        if self.states[at] != 0 {
+            return Err(Refusal::BufferInWrongState.at(0));
         }
+        Ok(at)
+    }
+
+    #[tactic(auto, using(crate::proofs::Told::checks), unfolding(crate::specs::Checks::ask_check))]
+    pub(crate) fn ask_check(&self, w: WorkerNo, b: BufferId) -> Result<usize, Refused>
+        ensures check { verdict result ≡ ask_check self.now w b }
+        ensures entry { IfOk result (λ at. (at < 256) × (at ≡ b.0 - 1)) }
+    {
+        self.begin_check(w)?;
+        self.id_check(b.0, 0)
     }
 }

@@ -12,16 +12,10 @@ pub(crate) fn all_leaving(s: IdSet, states: &[u8; 256]) -> bool
     ensures { result ≡ all_below 256 (λ j. not (member_of s (suc j)) || eqb (get_or states.now j 0) 2) }
 {
     let mut ok = true;
-    for i in 0..4usize {
-        let word = s.words[i];
-        let mut from: u32 = 0;
-        loop {
-            let mark = next_mark(word, from);
-            if mark == 64 {
-                break;
-            }
-            let k = 64 * i + (mark as usize);
-            ok = ok & (states[k] == 2);
+    for (i, word) in s.words.iter().enumerate() {
+        let mut from = 0;
+        while let Some(mark) = next_mark(*word, from) {
+            ok &= states[64 * i + mark as usize] == 2;
             from = mark + 1;
         }
     }
@@ -35,16 +29,11 @@ pub(crate) fn hand(s: IdSet, states: &mut [u8; 256], out: &mut [u32])
     ensures freed { states.new ≡ table (length states.old) (λ j. when (member_of s (suc j)) 0 (get_or states.old j 0)) }
     ensures list { out.new ≡ handed s out.old }
 {
-    let mut n: usize = 0;
-    for i in 0..4usize {
-        let word = s.words[i];
-        let mut from: u32 = 0;
-        loop {
-            let mark = next_mark(word, from);
-            if mark == 64 {
-                break;
-            }
-            let k = 64 * i + (mark as usize);
+    let mut n = 0;
+    for (i, word) in s.words.iter().enumerate() {
+        let mut from = 0;
+        while let Some(mark) = next_mark(*word, from) {
+            let k = 64 * i + mark as usize;
             states[k] = 0;
             out[n] = (k + 1) as u32;
             n += 1;

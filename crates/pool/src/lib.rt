@@ -1,36 +1,38 @@
 // The pool engine. One record goes into each call by value and comes back beside the answer, so whoever holds a pool decides which
 // call comes next. Every call takes any record and any arguments; what is wrong with them is answered by a refusal, and then nothing
 // has changed.
-#![tactic(auto)]
+#![tactic(auto, using(basics::proofs::Picks::picks))]
 
 mod advance;
 mod answers;
 mod begins;
 mod broken;
 mod checks;
+mod every;
 mod handback;
 mod lines;
 mod lists;
 mod make;
 mod questions;
+mod search;
 mod sound;
 
 use idset::IdSet;
 use worker::Worker;
 
 // What callers name. Three structs, so that none is taken for another.
-#[derive(Clone, Copy)]
+#[derive(Clone, Copy, Debug, PartialEq, Eq)]
 pub struct WorkerNo(pub u32);
 
-#[derive(Clone, Copy)]
+#[derive(Clone, Copy, Debug, PartialEq, Eq)]
 pub struct GuardNo(pub u32);
 
-#[derive(Clone, Copy)]
+#[derive(Clone, Copy, Debug, PartialEq, Eq)]
 pub struct BufferId(pub u32);
 
 // Labels, states and employers are plain numbers: a damaged record can be written down too. Guard i is entry i of its arrays, buffer id
 // is entry id - 1 of the states, and worker no is entry no - 1 of the workers and of the sets.
-#[derive(Clone, Copy)]
+#[derive(Clone, Copy, Debug, PartialEq, Eq)]
 pub struct Pool {
     pub w: u32,
     pub g: u32,
@@ -46,7 +48,7 @@ pub struct Pool {
     pub sets: [IdSet; 8],
 }
 
-#[derive(Clone, Copy)]
+#[derive(Clone, Copy, Debug, PartialEq, Eq)]
 pub enum Refusal {
     SizesOutOfRange,
     // The rules of soundness, in the paper's order: W, G, B and MAXG; entries beyond the counts; employers, states and labels; ids; registers.
@@ -69,7 +71,7 @@ pub enum Refusal {
     MemberNotLeaving,
 }
 
-#[derive(Clone, Copy)]
+#[derive(Clone, Copy, Debug, PartialEq, Eq)]
 pub enum Answer {
     Accepted,
     Yes,
@@ -90,44 +92,15 @@ pub enum Answer {
     Refused(Refusal, usize),
 }
 
-#[derive(Clone, Copy)]
+#[derive(Clone, Copy, Debug, PartialEq, Eq)]
 pub struct Outcome {
     pub answer: Answer,
     pub pool: Pool,
 }
 
-// What one advance of a worker reads and may store, but for the states: its own number, registers and set, G, MAXG, and the guard that it is
-// at.
-#[derive(Clone, Copy)]
-struct Reach {
-    no: u32,
-    g: u32,
-    me: Worker,
-    set: IdSet,
-    maxg: u32,
-    taken: bool,
-    employer: u32,
-    posted: u32,
-    slot_id: u32,
-    slot_version: u32,
-}
-
-#[derive(Clone, Copy)]
-struct Moved {
-    answer: Answer,
-    reach: Reach,
-}
-
-// What a check of a record, or of a call's record and arguments, found.
-#[derive(Clone, Copy)]
-pub enum Verdict {
-    Fine,
-    Fault(Refusal, usize),
-}
-
-// What the check of a give-up list found and, where that is nothing, the list's ids as a set.
-#[derive(Clone, Copy)]
-struct Judged {
-    check: Verdict,
-    met: IdSet,
+// Why a call is refused, or a record is not sound, with the place.
+#[derive(Clone, Copy, Debug, PartialEq, Eq)]
+pub struct Refused {
+    pub refusal: Refusal,
+    pub place: usize,
 }

@@ -1,211 +1,207 @@
-// One advance of a worker, a method for each label, over what the worker has in reach: the record itself is not copied here. Label 32, which
-// goes over the states, is in `advance`.
-ghost use Rattle.std.specs.Prelude.{◌≡◌, ◌<◌};
+// The table of labels, a method for each line, on the record where it stands. k is the worker's number less 1.
+ghost use Rattle.std.specs.Prelude.{◌≡◌, ◌+◌, ◌<◌, eqb, length, OnOk, OnErr};
 ghost use Rattle.basics.specs.Pick.{when};
-ghost use Rattle.idset.specs.Members.{no_ids};
-ghost use Rattle.worker.specs.Registers.{largest, no_worker};
-ghost use Rattle.pool.specs.Answers.{after_check};
-ghost use Rattle.pool.specs.Steps.{line2, line5, line6, line7, line9, unchanged, line18, collects, line28, version_check};
-ghost use Rattle.pool.specs.ForProofs.Reach.{storing, putting, own_step, Takes, TakesLine};
+ghost use Rattle.pool.specs.Answers.{said, answering, after_check, verdict, fine, refuse};
+ghost use Rattle.pool.specs.Record.{posted_at, slot_at, worker_at, set_at, with_slot};
+ghost use Rattle.pool.specs.Steps.{largest_version, line2, line5, line6, line7, line9, unchanged, line18, collects, line28, version_check, puts, goes, ends, line32, hand_check, line_of, line_check, handed, list_after_check};
+ghost use Rattle.pool.specs.ForProofs.Calls.{answered};
+ghost use Rattle.pool.specs.ForProofs.Ready.{Ready, Stands, own_step, list_of};
 
-use crate::{Answer, GuardNo, Moved, Reach, Refusal};
+use crate::handback::{all_leaving, hand};
+use crate::{Answer, GuardNo, Pool, Refusal, Refused};
 use idset::IdSet;
-use worker::lent::advance_alone;
+use worker::lent::advance_lent;
 use worker::{Slot, Worker};
 
-// A slot's version never wraps.
-const LARGEST_VERSION: u32 = 4294967295;
-
-fn choose(test: bool, yes: u32, no: u32) -> u32
-    ensures { result ≡ when test yes no }
-{
-    if test { yes } else { no }
-}
-
-impl Reach {
-    // The line of the label that the worker stands at.
-    pub(crate) fn line(self) -> Moved
-        requires { self.me.i < largest }
-        ensures { TakesLine self result }
+impl Pool {
+    // Kept: labels are numbers, so the line is found by a `match` on one, as the paper's table has it.
+    pub(crate) fn line(&mut self, k: usize, out: &mut [u32]) -> Result<Answer, Refused>
+        requires { Stands self.old k }
+        ensures outcome { answering (answered result) self.new ≡ after_check (line_check (worker_at self.old k).label k self.old (length out.old)) self.old (line_of (worker_at self.old k).label k self.old) }
+        ensures list { out.new ≡ list_of k self.old out.old }
     {
-        let me = self.me;
-        let label = me.label;
-        match label {
-            2 => self.line2(),
-            5 => self.line5(),
-            6 => self.line6(),
-            7 => self.line7(),
-            8 => self.ends(Answer::Fired),
-            9 => self.line9(),
-            10 => self.ends(Answer::Posted),
-            18 => self.line18(),
-            28 => self.line28(),
+        match self.workers[k].label {
+            2 => Ok(self.line2(k)),
+            5 => Ok(self.line5(k)),
+            6 => Ok(self.line6(k)),
+            7 => Ok(self.line7(k)),
+            8 => Ok(self.ends(k, Answer::Fired)),
+            9 => Ok(self.line9(k)),
+            10 => Ok(self.ends(k, Answer::Posted)),
+            18 => self.line18(k),
+            28 => self.line28(k),
+            32 => self.line32(k, out),
             // 4, 12, 13, 15, 22, 25 and 31. One call for them all, which the compiler then puts in place.
-            _ => self.own_line(),
+            _ => Ok(self.own_line(k)),
         }
     }
 
-    // This worker and this set from now on.
-    fn stores(self, answer: Answer, me: Worker, set: IdSet) -> Moved
-        ensures { result ≡ storing answer me set self }
+    // The worker goes on to label l.
+    #[tactic(auto, unfolding(crate::specs::Steps::puts))]
+    fn goes(&mut self, k: usize, l: u32) -> Answer
+        requires { k < 8 }
+        ensures { answering (said result) self.new ≡ goes k l self.old }
     {
-        let reach = Reach {
-            no: self.no,
-            g: self.g,
-            me: me,
-            set: set,
-            maxg: self.maxg,
-            taken: self.taken,
-            employer: self.employer,
-            posted: self.posted,
-            slot_id: self.slot_id,
-            slot_version: self.slot_version,
-        };
-        Moved {
-            answer: answer,
-            reach: reach,
-        }
-    }
-
-    // The worker's label and registers are x from now on.
-    fn puts(self, x: Worker) -> Moved
-        ensures { result ≡ putting x self }
-    {
-        let set = self.set;
-        self.stores(Answer::At(x.label), x, set)
+        self.workers[k].label = l;
+        Answer::At(l)
     }
 
     // An end: idle, registers 0, set empty.
-    fn ends(self, answer: Answer) -> Moved
-        ensures { result ≡ storing answer no_worker no_ids self }
+    #[tactic(auto, unfolding(crate::specs::Steps::ends))]
+    fn ends(&mut self, k: usize, answer: Answer) -> Answer
+        requires { k < 8 }
+        ensures { answering (said result) self.new ≡ ends k (said answer) self.old }
     {
-        let idle = Worker::idle();
-        let none = IdSet::empty();
-        self.stores(answer, idle, none)
+        self.workers[k] = Worker::idle();
+        self.sets[k] = IdSet::empty();
+        answer
     }
 
-    // All is as it was.
-    fn versions_used_up(self) -> Moved
-        ensures { result ≡ storing (Answer.Refused Refusal.VersionsUsedUp 0) self.me self.set self }
+    // What stands at guard i, or nothing where there is no such guard.
+    fn posted_at(&self, i: usize) -> u32
+        ensures { result ≡ posted_at self.now i }
     {
-        let me = self.me;
-        let set = self.set;
-        self.stores(Answer::Refused(Refusal::VersionsUsedUp, 0), me, set)
+        self.posted.get(i).copied().unwrap_or(0)
     }
 
-    fn line2(mut self) -> Moved
-        requires { self.me.i < largest }
-        ensures { Takes line2 self result }
+    fn slot_at(&self, i: usize) -> Slot
+        ensures { result ≡ slot_at self.now i }
     {
-        let mut me = self.me;
-        if !self.taken {
-            self.taken = true;
-            me.label = 4;
-            return self.puts(me);
+        Slot {
+            id: self.slot_id.get(i).copied().unwrap_or(0),
+            version: self.slot_version.get(i).copied().unwrap_or(0),
         }
-        let next = me.i + 1;
-        if next == self.g {
-            return self.ends(Answer::NoneFound);
+    }
+
+    #[tactic(auto, using(crate::proofs::Told::begins), unfolding(crate::specs::Steps::line2, crate::specs::Steps::puts))]
+    fn line2(&mut self, k: usize) -> Answer
+        requires { Ready self.old k }
+        ensures { answering (said result) self.new ≡ line2 k self.old }
+    {
+        let i = self.workers[k].i;
+        if !self.taken[i as usize] {
+            self.taken[i as usize] = true;
+            return self.goes(k, 4);
         }
-        me.i = next;
-        self.puts(me)
-    }
-
-    fn line5(mut self) -> Moved
-        ensures { Takes line5 self result }
-    {
-        let mut me = self.me;
-        self.maxg = choose(self.maxg == me.max, me.i, self.maxg);
-        me.label = 4;
-        self.puts(me)
-    }
-
-    fn line6(mut self) -> Moved
-        ensures { Takes line6 self result }
-    {
-        let me = self.me;
-        self.employer = self.no;
-        self.ends(Answer::Hired(GuardNo(me.i)))
-    }
-
-    fn line7(mut self) -> Moved
-        ensures { Takes line7 self result }
-    {
-        let mut me = self.me;
-        self.taken = false;
-        me.label = 8;
-        self.puts(me)
-    }
-
-    fn line9(mut self) -> Moved
-        ensures { Takes line9 self result }
-    {
-        let mut me = self.me;
-        self.posted = me.v;
-        me.label = 10;
-        self.puts(me)
-    }
-
-    // Labels 4, 12, 13, 15, 22, 25 and 31: the worker's own step.
-    fn own_line(self) -> Moved
-        ensures { result ≡ putting (own_step self) self }
-    {
-        let me = self.me;
-        let set = self.set;
-        let slot = Slot {
-            id: self.slot_id,
-            version: self.slot_version,
-        };
-        let member = set.has(self.posted);
-        let step = advance_alone(me, self.maxg, self.posted, member, slot);
-        let x = step.worker;
-        self.puts(x)
-    }
-
-    fn line18(mut self) -> Moved
-        ensures { Takes (λ k p. after_check (version_check (unchanged k p) k p) p (line18 k p)) self result }
-    {
-        let mut me = self.me;
-        let h = me.h;
-        let same = (self.slot_id == h.id) & (self.slot_version == h.version);
-        if !same {
-            me.label = 22;
-            return self.puts(me);
+        if i + 1 == self.g {
+            return self.ends(k, Answer::NoneFound);
         }
-        if self.slot_version == LARGEST_VERSION {
-            return self.versions_used_up();
+        let me = &mut self.workers[k];
+        me.i = i + 1;
+        Answer::At(me.label)
+    }
+
+    fn line5(&mut self, k: usize) -> Answer
+        requires { k < 8 }
+        ensures { answering (said result) self.new ≡ line5 k self.old }
+    {
+        if self.maxg == self.workers[k].max {
+            self.maxg = self.workers[k].i;
+        }
+        self.goes(k, 4)
+    }
+
+    fn line6(&mut self, k: usize) -> Answer
+        requires { Ready self.old k }
+        ensures { answering (said result) self.new ≡ line6 k self.old }
+    {
+        let i = self.workers[k].i;
+        self.employer[i as usize] = (k + 1) as u32;
+        self.ends(k, Answer::Hired(GuardNo(i)))
+    }
+
+    fn line7(&mut self, k: usize) -> Answer
+        requires { Ready self.old k }
+        ensures { answering (said result) self.new ≡ line7 k self.old }
+    {
+        self.taken[self.workers[k].i as usize] = false;
+        self.goes(k, 8)
+    }
+
+    fn line9(&mut self, k: usize) -> Answer
+        requires { Ready self.old k }
+        ensures { answering (said result) self.new ≡ line9 k self.old }
+    {
+        self.posted[self.workers[k].i as usize] = self.workers[k].v;
+        self.goes(k, 10)
+    }
+
+    // The worker's own step, made where its registers stand.
+    fn own_line(&mut self, k: usize) -> Answer
+        requires { k < 8 }
+        ensures { answering (said result) self.new ≡ puts k (own_step k self.old) self.old }
+    {
+        let i = self.workers[k].i as usize;
+        let posted = self.posted_at(i);
+        let slot = self.slot_at(i);
+        let member = self.sets[k].has(posted);
+        let maxg = self.maxg;
+        let me = &mut self.workers[k];
+        advance_lent(me, maxg, posted, member, slot);
+        Answer::At(me.label)
+    }
+
+    fn line18(&mut self, k: usize) -> Result<Answer, Refused>
+        requires { Ready self.old k }
+        ensures { answering (answered result) self.new ≡ after_check (version_check (unchanged k self.old) k self.old) self.old (line18 k self.old) }
+    {
+        let me = self.workers[k];
+        let i = me.i as usize;
+        if self.slot_at(i) != me.h {
+            return Ok(self.goes(k, 22));
         }
         // The slot takes v, and the set what the slot held.
-        self.slot_id = me.v;
-        self.slot_version = self.slot_version + 1;
-        let set = self.set;
-        let less = set.without(me.v);
-        let more = less.with(h.id);
-        me.label = 31;
-        self.stores(Answer::At(31), me, more)
+        self.fill(i, me.v)?;
+        self.sets[k] = self.sets[k].without(me.v).with(me.h.id);
+        Ok(self.goes(k, 31))
     }
 
-    fn line28(mut self) -> Moved
-        ensures { Takes (λ k p. after_check (version_check (collects k p) k p) p (line28 k p)) self result }
+    fn line28(&mut self, k: usize) -> Result<Answer, Refused>
+        requires { Ready self.old k }
+        ensures { answering (answered result) self.new ≡ after_check (version_check (collects k self.old) k self.old) self.old (line28 k self.old) }
     {
-        let mut me = self.me;
-        let h = me.h;
-        let collects = (h.id != 0)
-            & (h.id != me.v)
-            & ((self.slot_id == h.id) & (self.slot_version == h.version));
+        let me = self.workers[k];
+        let i = me.i as usize;
+        let collects = (me.h.id != 0) & (me.h.id != me.v) & (self.slot_at(i) == me.h);
         if !collects {
-            me.label = 31;
-            return self.puts(me);
-        }
-        if self.slot_version == LARGEST_VERSION {
-            return self.versions_used_up();
+            return Ok(self.goes(k, 31));
         }
         // The slot is emptied, and the set takes what it held.
-        self.slot_id = 0;
-        self.slot_version = self.slot_version + 1;
-        let set = self.set;
-        let more = set.with(h.id);
-        me.label = 31;
-        self.stores(Answer::At(31), me, more)
+        self.fill(i, 0)?;
+        self.sets[k] = self.sets[k].with(me.h.id);
+        Ok(self.goes(k, 31))
+    }
+
+    // Another id goes into slot i, whose version never wraps.
+    fn fill(&mut self, i: usize, id: u32) -> Result<(), Refused>
+        requires { i < 32 }
+        ensures check { verdict result ≡ when (eqb (slot_at self.old i).version largest_version) (refuse 12 0) fine }
+        ensures ok { OnOk result (self.new ≡ with_slot i (record { id = id; version = (slot_at self.old i).version + 1 }) self.old) }
+        ensures err { OnErr result (self.new ≡ self.old) }
+    {
+        let Some(version) = self.slot_version[i].checked_add(1) else {
+            return Err(Refusal::VersionsUsedUp.at(0));
+        };
+        self.slot_id[i] = id;
+        self.slot_version[i] = version;
+        Ok(())
+    }
+
+    // The set's buffers go back, all or none.
+    fn line32(&mut self, k: usize, out: &mut [u32]) -> Result<Answer, Refused>
+        requires { k < 8 }
+        ensures outcome { answering (answered result) self.new ≡ after_check (hand_check k self.old (length out.old)) self.old (line32 k self.old) }
+        ensures list { out.new ≡ list_after_check (hand_check k self.old (length out.old)) out.old (handed (set_at self.old k) out.old) }
+    {
+        let set = self.sets[k];
+        if !all_leaving(set, &self.states) {
+            return Err(Refusal::MemberNotLeaving.at(0));
+        }
+        let size = set.size();
+        if out.len() < size as usize {
+            return Err(Refusal::ListTooShort.at(0));
+        }
+        hand(set, &mut self.states, out);
+        Ok(self.ends(k, Answer::Back(size)))
     }
 }

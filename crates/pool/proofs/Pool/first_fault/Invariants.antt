@@ -5,8 +5,8 @@ use Rattle.pool.specs.Questions.{audit_from}
 use Rattle.pool.proofs.Audit.{slots_below, sets_below, rest}
 use Rattle.pool.proofs.Pool.first_fault.Given as goal
 
-abbrev pub invariant-loop-i : goal.invariant-loop-i
-invariant-loop-i l = (l.slots ≤ l.i) × (l.slots ≡ slots_below l.self l.id l.i)
+abbrev pub invariant-loop-held : goal.invariant-loop-held
+invariant-loop-held l = (l.slots ≤ l.held-index) × (l.slots ≡ slots_below l.self l.id l.held-index)
 
 abbrev pub invariant-loop-k : goal.invariant-loop-k
 invariant-loop-k l =
@@ -16,7 +16,7 @@ abbrev pub decreases-loop-k : goal.decreases-loop-k
 decreases-loop-k l = 8 - l.k
 
 abbrev pub invariant-search : goal.invariant-search
-invariant-search l = (1 ≤ l.id) × (l.id ≤ l.b + 1) × (rest l.self l.id ≡ audit_from l.self l.b 1)
+invariant-search l = (1 ≤ l.id) × (l.id ≤ l.self.b + 1) × (rest l.self l.id ≡ audit_from l.self l.self.b 1)
 
 abbrev pub decreases-search : goal.decreases-search
-decreases-search l = l.b + 1 - l.id
+decreases-search l = l.self.b + 1 - l.id

@@ -1,24 +1,18 @@
--- `pool::Pool::post_check` meets its contract. Assumes nothing.
+-- `pool::Pool::post_check` meets its contract where a check that it calls refuses. Assumes nothing.
 use Rattle.pool.specs.Checks.{post_check}
-use Rattle.pool.proofs.Told.{checks}
-use Rattle.pool.proofs.Checked.{indices}
+use Rattle.pool.proofs.Told.{first_on, first_fine, fine_by}
+use Rattle.pool.proofs.Checked.{few_guards}
 use Rattle.pool.proofs.Pool.post_check.Goals as goal
 
-pub guard_check-guard-requires : goal.guard_check-guard-requires
-guard_check-guard-requires c = search indices
-
-pub returns-in-Fault : goal.returns-in-Fault
+pub returns-in_err-k-clause-check : goal.returns-in_err-k-clause-check
 unfolding post_check
-returns-in-Fault c = search checks depth 12
+returns-in_err-k-clause-check c = first_on _ c.in_err-k.was c.from_residual.ensures.1 c.begin_check.ensures.check _
 
-pub returns-in-Fault-guard : goal.returns-in-Fault-guard
-unfolding post_check
-returns-in-Fault-guard c = search checks depth 12
+pub guard_check-requires : goal.guard_check-requires
+guard_check-requires c = few_guards c.args.self.now c.args.w (fine_by c.begin_check.result c.begin_check.ensures.check c.in_ok-k.was)
 
-pub returns-then-self-b : goal.returns-then-self-b
+pub returns-in_err-guard_check-clause-check : goal.returns-in_err-guard_check-clause-check
 unfolding post_check
-returns-then-self-b c = search checks depth 12
-
-pub returns-else-self-b : goal.returns-else-self-b
-unfolding post_check
-returns-else-self-b c = search checks depth 12
+returns-in_err-guard_check-clause-check c =
+    first_fine c.begin_check.result _ _ _ c.begin_check.ensures.check c.in_ok-k.was
+    (first_on _ c.in_err-guard_check.was c.from_residual-in_err-guard_check.ensures.1 c.guard_check.ensures.check _)

@@ -4,11 +4,11 @@ use Rattle.basics.specs.Below.{all_below}
 use Rattle.pool.proofs.Handed.{leaves}
 use Rattle.pool.proofs.handback.all_leaving.Given as goal
 
-abbrev pub invariant-loop-word : goal.invariant-loop-word
-invariant-loop-word l = (l.from ≤ 64) × (l.ok ≡ all_below (64 * l.i + l.from) (leaves l.s l.states))
+abbrev pub invariant-loop-mark : goal.invariant-loop-mark
+invariant-loop-mark l = (l.from ≤ 64) × (l.ok ≡ all_below (64 * l.i + l.from) (leaves l.fn.s l.states))
 
-abbrev pub decreases-loop-word : goal.decreases-loop-word
-decreases-loop-word l = 64 - l.from
+abbrev pub decreases-loop-mark : goal.decreases-loop-mark
+decreases-loop-mark l = 64 - l.from
 
 abbrev pub invariant-loop-i : goal.invariant-loop-i
-invariant-loop-i l = l.ok ≡ all_below (64 * l.i) (leaves l.s l.states)
+invariant-loop-i l = l.ok ≡ all_below (64 * l.i) (leaves l.fn.s l.states)

@@ -1,7 +1,7 @@
--- What the loop of `questions::count_leaving` keeps: the count so far. Assumes nothing.
+-- The count so far. Assumes nothing.
 use Rattle.std.proofs.Common.{◌≡◌, ◌≤◌, eqb, get_or}
 use Rattle.basics.specs.Below.{count_below}
 use Rattle.pool.proofs.questions.count_leaving.Given as goal
 
-abbrev pub invariant-loop-k : goal.invariant-loop-k
-invariant-loop-k l = (l.n ≤ l.k) × (l.n ≡ count_below l.k (λ j. eqb (get_or l.xs j 0) 2))
+abbrev pub invariant-loop-state : goal.invariant-loop-state
+invariant-loop-state l = (l.n ≤ l.state-index) × (l.n ≡ count_below l.state-index (λ j. eqb (get_or l.states j 0) 2))

@@ -1,9 +1,0 @@
--- No entry so far breaks the rule.
-use Rattle.std.proofs.Common.{◌≡◌, suc}
-use Rattle.pool.specs.Answers.{fine, number_of, first_below}
-use Rattle.pool.specs.Sound.{keeps}
-use Rattle.pool.specs.ForProofs.Searches.{buffer_keeps}
-use Rattle.pool.proofs.Pool.buffers_keep.Given as goal
-
-abbrev pub invariant-loop-k : goal.invariant-loop-k
-invariant-loop-k l = first_below l.k (λ j. keeps (number_of l.rule) (suc j) (buffer_keeps l.self (number_of l.rule) j)) ≡ fine

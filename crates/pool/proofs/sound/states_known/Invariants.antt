@@ -1,8 +1,0 @@
--- So far every entry has passed.
-use Rattle.std.proofs.Common.{◌≡◌}
-use Rattle.basics.specs.Below.{all_below}
-use Rattle.pool.specs.ForProofs.Scans.{most}
-use Rattle.pool.proofs.sound.states_known.Given as goal
-
-abbrev pub invariant-loop-k : goal.invariant-loop-k
-invariant-loop-k l = l.ok ≡ all_below l.k (most l.xs 2)
