@@ -9,9 +9,9 @@ use lib.ListN.{get_or, set, length}
 use borrow.Author.Tests.{ne_eqb}
 use Rattle.basics.specs.Pick.{when}
 use Rattle.worker.specs.declared.Worker.{Worker}
-use Rattle.worker.specs.declared.Stepped.{Stepped}
+use Rattle.std.specs.Prelude.{Option, Some, is_some, unwrap_or}
 use Rattle.worker.specs.Registers.{no_worker}
-use Rattle.worker.specs.Steps.{own, moved}
+use Rattle.worker.specs.Steps.{own}
 use Rattle.worker.proofs.Laws.{step_4, step_12, step_13, step_15, step_22, step_25, step_31, step_other}
 use Rattle.pool.specs.declared.Pool.{Pool}
 use Rattle.pool.specs.declared.WorkerNo.{WorkerNo}
@@ -22,7 +22,7 @@ use Rattle.pool.specs.Checks.{worker_of}
 use Rattle.pool.specs.Steps.{puts, line_of, line_check, stand_check, advance_check, advance_of, list_after_check, list_after}
 use Rattle.pool.specs.ForProofs.Ready.{Stands}
 use Rattle.pool.proofs.Standing.{ready, last_label}
-use Rattle.rules.specs.Lent.{alone, Agree, Lent}
+use Rattle.rules.specs.Lent.{alone, left_alone, Agree, Lent}
 use Rattle.rules.proofs.EachLine.{by_line}
 use Rattle.rules.proofs.Passed.{stand_passes}
 
@@ -42,10 +42,10 @@ module _ (p : Pool) (k : ℕ) (s : Stands p k) (mine : own (worker_at p k).label
   other n not_own e = true≢false (sym mine ∙ ap own e ∙ not_own)
 
   abbrev Taken : Told → Type 0
-  Taken t = ((alone p k).applies ≡ true) × (t ≡ puts k (alone p k).worker p)
+  Taken t = (is_some (alone p k) ≡ true) × (t ≡ puts k (left_alone p k) p)
 
-  taken : (x : Worker) → alone p k ≡ moved x → Taken (puts k x p)
-  taken x e = (ap (λ (z : Stepped). z.applies) e, ap (λ (z : Stepped). puts k z.worker p) (sym e))
+  taken : (x : Worker) → alone p k ≡ Some x → Taken (puts k x p)
+  taken x e = (ap is_some e, ap (λ (z : Option Worker). puts k (unwrap_or z (worker_at p k)) p) (sym e))
 
   line_taken : Taken (line_of l k p)
   unfolding own
@@ -98,13 +98,13 @@ module _ (p : Pool) (w : WorkerNo) (out : List ℕ) (sound : sound_of p ≡ true
   unfolding advance_check first
   may_advance = rw (may_stand, none_refused p k stood mine (length out))
 
-  is_advance : advance_of p w out ≡ puts k (alone p k).worker p
+  is_advance : advance_of p w out ≡ puts k (left_alone p k) p
   unfolding advance_of after_check
   is_advance = rw may_advance (line_taken p k stood mine).1
 
-  worker_is : worker_of (advance_of p w out).pool w ≡ (alone p k).worker
+  worker_is : worker_of (advance_of p w out).pool w ≡ left_alone p k
   unfolding puts
-  worker_is = rw is_advance (put_there p.workers k (alone p k).worker busy)
+  worker_is = rw is_advance (put_there p.workers k (left_alone p k) busy)
 
   list_is : list_after p w out ≡ out
   unfolding own list_after list_after_check when
@@ -114,4 +114,8 @@ module _ (p : Pool) (w : WorkerNo) (out : List ℕ) (sound : sound_of p ≡ true
   agree = record { applies = (line_taken p k stood mine).0; advanced = is_advance; worker = worker_is; list = list_is }
 
 pub lent : Lent
-lent = record { own_labels = agree; other_labels = step_other }
+lent = record {
+  own_labels = agree;
+  other_labels = step_other;
+  unmoved = λ x maxg posted member slot other. ap (λ (z : Option Worker). unwrap_or z x) (step_other x maxg posted member slot other);
+}
