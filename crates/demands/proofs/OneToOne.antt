@@ -8,10 +8,10 @@ use Rattle.basics.specs.Pick.{when}
 use Rattle.pool.specs.declared.Outcome.{Outcome}
 use Rattle.pool.specs.declared.Refusal.{Refusal}
 use Rattle.pool.specs.declared.Refusal.TheVariants.{SizesOutOfRange, CountsOutOfRange, EntryBeyondCounts, KindUnknown, IdOutOfRange, RegisterOutOfRange, NoSuchWorker, WorkerNotIdle, WorkerIdle, NoSuchGuard, GuardNotEmployed, GuardPosted, NoSuchBuffer, BufferRepeated, BufferInWrongState, VersionsUsedUp, ListTooShort, MemberNotLeaving}
-use Rattle.pool.specs.declared.Verdict.{Verdict}
-use Rattle.pool.specs.declared.Verdict.TheVariants.{Fine, Fault as Faulty}
+use Rattle.std.specs.Prelude.{Result, Ok, Err, ⊤}
+use Rattle.pool.specs.declared.Refused.{Refused}
 use Rattle.pool.specs.declared.Answer.{Answer}
-use Rattle.pool.specs.declared.Answer.TheVariants.{Accepted, Yes, No, At, Hired, NoneFound, Fired, Posted, Back, Count, Clear, Fault, Refused}
+use Rattle.pool.specs.declared.Answer.TheVariants.{Accepted, Yes, No, At, Hired, NoneFound, Fired, Posted, Back, Count, Clear, Fault, Refused as RefusedAt}
 use Rattle.pool.specs.Answers.{Check, fine, refuse, verdict, Said, Told, number_of, said, told, accepted, yes, no, none_found, fired, posted, clear, label, guard, back, count, fault, refused}
 
 -- ---- from the paper's number and values back to the answer
@@ -58,7 +58,7 @@ answer_of (guard g) = Hired (record { 0 = g })
 answer_of (back n) = Back n
 answer_of (count n) = Count n
 answer_of (fault b n) = Fault (record { 0 = b }) n
-answer_of (refused n place) = Refused (refusal_of n) place
+answer_of (refused n place) = RefusedAt (refusal_of n) place
 
 answer_back : (a : Answer) → answer_of (said a) ≡ a
 unfolding answer_of
@@ -74,7 +74,7 @@ answer_back (Back n) = refl
 answer_back (Count n) = refl
 answer_back Clear = refl
 answer_back (Fault b n) = refl
-answer_back (Refused r place) = ap (λ (x : Refusal). Refused x place) (refusal_back r)
+answer_back (RefusedAt r place) = ap (λ (x : Refusal). RefusedAt x place) (refusal_back r)
 
 outcome_back : (r : Outcome) → record { answer = answer_of (told r).answer; pool = (told r).pool } ≡ r
 outcome_back r = ap (λ (a : Answer). record { answer = a; pool = r.pool }) (answer_back r.answer)
@@ -85,14 +85,14 @@ same_answer a b e = sym (answer_back a) ∙ ap answer_of e ∙ answer_back b
 pub same_outcome : (r s : Outcome) → told r ≡ told s → r ≡ s
 same_outcome r s e = sym (outcome_back r) ∙ ap (λ (t : Told). record { answer = answer_of t.answer; pool = t.pool }) e ∙ outcome_back s
 
-verdict_of : Check → Verdict
-verdict_of fine = Fine
-verdict_of (refuse n place) = Faulty (refusal_of n) place
+verdict_of : Check → Result ⊤ Refused
+verdict_of fine = Ok tt
+verdict_of (refuse n place) = Err (record { refusal = refusal_of n; place = place })
 
-verdict_back : (v : Verdict) → verdict_of (verdict v) ≡ v
+verdict_back : (v : Result ⊤ Refused) → verdict_of (verdict v) ≡ v
 unfolding verdict_of
-verdict_back Fine = refl
-verdict_back (Faulty r place) = ap (λ (x : Refusal). Faulty x place) (refusal_back r)
+verdict_back (Ok x) = refl
+verdict_back (Err r) = ap (λ (x : Refusal). Err (record { refusal = x; place = r.place })) (refusal_back r.refusal)
 
-pub same_verdict : (u v : Verdict) → verdict u ≡ verdict v → u ≡ v
+pub same_verdict : (u v : Result ⊤ Refused) → verdict u ≡ verdict v → u ≡ v
 same_verdict u v e = sym (verdict_back u) ∙ ap verdict_of e ∙ verdict_back v

@@ -1,6 +1,6 @@
 -- What each public function of the engine asks of its caller, and which results it may come to: its contract, as the crate `pool` exports it with
 -- the proof that the code meets it. Nothing here names a definition that a contract cites: a contract that says less allows more.
-use Rattle.std.specs.Prelude.{ℕ, ◌≡◌, List, []}
+use Rattle.std.specs.Prelude.{ℕ, ◌≡◌, List, [], Result, ⊤}
 use Rattle.std.specs.Borrow.{Bor, MutBor}
 use contract.Lifetimes.{Lfts}
 use Rattle.pool.specs.declared.WorkerNo.{WorkerNo}
@@ -8,7 +8,7 @@ use Rattle.pool.specs.declared.GuardNo.{GuardNo}
 use Rattle.pool.specs.declared.BufferId.{BufferId}
 use Rattle.pool.specs.declared.Pool.{Pool}
 use Rattle.pool.specs.declared.Refusal.{Refusal}
-use Rattle.pool.specs.declared.Verdict.{Verdict}
+use Rattle.pool.specs.declared.Refused.{Refused}
 use Rattle.pool.specs.declared.Answer.{Answer}
 use Rattle.pool.specs.declared.Outcome.{Outcome}
 use Rattle.demands.specs.Promises.{MakePre, MakePost, BlankPre, BlankPost, SoundnessPre, SoundnessPost, HirePre, HirePost, FirePre, FirePost, PostPre, PostPost, GiveUpPre, GiveUpPost, TakePre, TakePost, AskPre, AskPost, AdvancePre, AdvancePost, SetSizePre, SetSizePost, LeavingCountPre, LeavingCountPost, AuditPre, AuditPost, NumberPre, NumberPost}
@@ -73,7 +73,7 @@ pub data Answers (p : Pool) (a : Answer) : Question → Type 0 where
   audit_said : Promised (AuditPost tt) (p, tt) a → Answers p a audit
 
 -- the test of a record, the record of given counts, and a refusal's number
-abbrev pub Tests : Pool → Verdict → Type 0
+abbrev pub Tests : Pool → Result ⊤ Refused → Type 0
 Tests p v = Promised (SoundnessPost tt) (p, tt) v
 
 abbrev pub Blanks : ℕ → ℕ → ℕ → Pool → Type 0

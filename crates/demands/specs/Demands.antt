@@ -1,10 +1,10 @@
 -- What Sorkhabin promises, on one page: the three demands and what later requests add, each a statement about the contracts of the engine's public functions (`Allowed`).
 -- The functions of src/lib.rt promise these statements, so one that is not shown, or only in part, fails the check of this crate.
-use Rattle.std.specs.Prelude.{ℕ, ◌-◌, ◌≤◌, ◌≡◌, ◌↔◌, true, false, List, [], ◌++◌}
+use Rattle.std.specs.Prelude.{ℕ, ◌-◌, ◌≤◌, ◌≡◌, ◌↔◌, true, false, List, [], ◌++◌, Result, ⊤}
 use Rattle.basics.specs.Among.{among_first}
 use Rattle.pool.specs.declared.Pool.{Pool}
 use Rattle.pool.specs.declared.Refusal.{Refusal}
-use Rattle.pool.specs.declared.Verdict.{Verdict}
+use Rattle.pool.specs.declared.Refused.{Refused}
 use Rattle.pool.specs.declared.Answer.{Answer}
 use Rattle.pool.specs.declared.Outcome.{Outcome}
 use Rattle.pool.specs.Answers.{Said, said, told, accepted, back, refused, number_of, fine, refuse, verdict}
@@ -47,7 +47,7 @@ pub record Demand1 : Type 0 where
   pub one_outcome : (c : Call) (p : Pool) (r s : Outcome) (l m : List ℕ) → Allows p r c l → Allows p s c m → (r ≡ s) × (l ≡ m)
   pub one_made : (w g b : ℕ) (r s : Outcome) → Makes w g b r → Makes w g b s → r ≡ s
   pub one_answer : (x : Question) (p : Pool) (a b : Answer) → Answers p a x → Answers p b x → a ≡ b
-  pub one_test : (p : Pool) (u v : Verdict) → Tests p u → Tests p v → u ≡ v
+  pub one_test : (p : Pool) (u v : Result ⊤ Refused) → Tests p u → Tests p v → u ≡ v
   pub one_blank : (w g b : ℕ) (p q : Pool) → Blanks w g b p → Blanks w g b q → p ≡ q
   pub one_number : (r : Refusal) (m n : ℕ) → Numbers r m → Numbers r n → m ≡ n
 
@@ -63,7 +63,7 @@ pub record Demand2 : Type 0 where
   pub step : (c : Call) (p : Pool) (r : Outcome) (list : List ℕ) → Allows p r c list → (told r ≡ call c p) × (list ≡ list_of c p)
   pub making : (w g b : ℕ) (r : Outcome) → Makes w g b r → told r ≡ make_of w g b
   pub answer : (x : Question) (p : Pool) (a : Answer) → Answers p a x → said a ≡ question_of x p
-  pub test : (p : Pool) (v : Verdict) → Tests p v → verdict v ≡ sound_check p
+  pub test : (p : Pool) (v : Result ⊤ Refused) → Tests p v → verdict v ≡ sound_check p
   pub counts_alone : (w g b : ℕ) (p : Pool) → Blanks w g b p → p ≡ blank w g b
   pub number : (r : Refusal) (n : ℕ) → Numbers r n → n ≡ number_of r
   -- a pool that is made is fresh and sound; out of range none is made, and the record handed back is all zero and not sound
@@ -102,8 +102,8 @@ pub record Demand3 : Type 0 where
 
 pub record Request101 : Type 0 where
   -- the public test finds that rule and place, and nothing exactly where the record is sound
-  pub found : (p : Pool) (v : Verdict) → Tests p v → (n place : ℕ) → (verdict v ≡ refuse n place) ↔ Breaks p n place
-  pub nothing_found : (p : Pool) (v : Verdict) → Tests p v → (verdict v ≡ fine) ↔ (sound_of p ≡ true)
+  pub found : (p : Pool) (v : Result ⊤ Refused) → Tests p v → (n place : ℕ) → (verdict v ≡ refuse n place) ↔ Breaks p n place
+  pub nothing_found : (p : Pool) (v : Result ⊤ Refused) → Tests p v → (verdict v ≡ fine) ↔ (sound_of p ≡ true)
   -- every call and every question passes it on, and says 21 or more for nothing else
   pub calls : (c : Call) (p : Pool) (r : Outcome) (list : List ℕ) → Allows p r c list → Names p (said r.answer)
   pub questions : (x : Question) (p : Pool) (a : Answer) → Answers p a x → Names p (said a)
