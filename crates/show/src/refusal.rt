@@ -6,9 +6,9 @@ use std::fmt;
 
 // Why a call was refused that left this record.
 #[derive(Clone, Copy)]
-struct Reason<'a> {
-    pool: &'a Pool,
-    refusal: Refusal,
+pub struct Reason<'a> {
+    pub pool: &'a Pool,
+    pub refusal: Refusal,
 }
 
 impl fmt::Display for Reason<'_> {

@@ -6,46 +6,6 @@ use pool::{Pool, Refusal, Verdict};
 use std::fmt;
 use worker::Worker;
 
-// A record's counts.
-#[derive(Clone, Copy, Debug, PartialEq, Eq)]
-struct Counts {
-    w: Count,
-    g: Count,
-    b: Count,
-}
-
-impl Counts {
-    fn of(pool: &Pool) -> Counts {
-        Counts {
-            w: Count {
-                letter: 'W',
-                n: pool.w,
-            },
-            g: Count {
-                letter: 'G',
-                n: pool.g,
-            },
-            b: Count {
-                letter: 'B',
-                n: pool.b,
-            },
-        }
-    }
-}
-
-// 21. One of the four is at fault, so the last is if none of the others is.
-fn wrong_counts(counts: Counts, maxg: u32) -> Wrong {
-    let Counts { w, g, b } = counts;
-    let of_three = [(w, 8), (g, 32), (b, 256)];
-    match of_three
-        .iter()
-        .find(|(count, most)| !(1..=*most).contains(&count.n))
-    {
-        Some((count, most)) => Wrong::Range(*count, *most),
-        None => Wrong::Maxg(maxg, g),
-    }
-}
-
 // A field whose number is above a count.
 fn above(entry: Entry, field: &'static str, n: u32, count: Count) -> Option<Wrong> {
     (count.n < n).then_some(Wrong::Misfit {
@@ -54,50 +14,6 @@ fn above(entry: Entry, field: &'static str, n: u32, count: Count) -> Option<Wron
         n,
         count,
     })
-}
-
-fn wrong_guard(pool: &Pool, counts: Counts, rule: Refusal, i: usize) -> Option<Wrong> {
-    if 32 <= i {
-        return None;
-    }
-    let guard = Guard {
-        taken: pool.taken[i],
-        employer: pool.employer[i],
-        posted: pool.posted[i],
-        slot_id: pool.slot_id[i],
-        slot_version: pool.slot_version[i],
-    };
-    let Counts { w, g, b } = counts;
-    let entry = Entry::Guard(i);
-    match rule {
-        Refusal::EntryBeyondCounts => {
-            (g.n as usize <= i && !guard.is_zero()).then_some(Wrong::GuardBeyond(i, g, guard))
-        }
-        Refusal::KindUnknown => above(entry, "employer is no worker", guard.employer, w),
-        Refusal::IdOutOfRange => above(entry, "posted id is no buffer", guard.posted, b).or(above(
-            entry,
-            "slot holds an id that is no buffer",
-            guard.slot_id,
-            b,
-        )),
-        _ => None,
-    }
-}
-
-fn wrong_buffer(pool: &Pool, counts: Counts, rule: Refusal, id: usize) -> Option<Wrong> {
-    let state = *pool.states.get(id.checked_sub(1)?)?;
-    let b = counts.b;
-    match rule {
-        Refusal::EntryBeyondCounts => {
-            ((b.n as usize) < id && state != 0).then_some(Wrong::BufferBeyond(id, b, state))
-        }
-        Refusal::KindUnknown => (2 < state).then_some(Wrong::Unknown {
-            entry: Entry::Buffer(id),
-            field: "state is none of the three",
-            n: u32::from(state),
-        }),
-        _ => None,
-    }
 }
 
 // 25. At labels 12 and 32 the scan over the guards may have come to its end, and at four labels one more attempt may follow.
@@ -123,40 +39,126 @@ fn wrong_register(entry: Entry, x: Worker, g: Count) -> Option<Wrong> {
     }
 }
 
-fn wrong_worker(pool: &Pool, counts: Counts, rule: Refusal, no: usize) -> Option<Wrong> {
-    let k = no.checked_sub(1)?;
-    let worker = *pool.workers.get(k)?;
-    let set = *pool.sets.get(k)?;
-    let Counts { w, g, b } = counts;
-    let entry = Entry::Worker(no);
-    match rule {
-        Refusal::EntryBeyondCounts => {
-            let held = Holding { worker, set };
-            ((w.n as usize) < no && !held.is_zero()).then_some(Wrong::WorkerBeyond(no, w, held))
-        }
-        // It is the label's fault, since no guard and no buffer was found.
-        Refusal::KindUnknown => Some(Wrong::Unknown {
-            entry,
-            field: "label is none that there is",
-            n: worker.label,
-        }),
-        Refusal::IdOutOfRange => above(entry, "v is no buffer", worker.v, b)
-            .or(above(entry, "h has an id that is no buffer", worker.h.id, b))
-            .or((!set.within(b.n)).then_some(Wrong::Member(entry, b))),
-        Refusal::RegisterOutOfRange => wrong_register(entry, worker, g),
-        _ => None,
-    }
+// A record, the first rule that it breaks, and the place.
+#[derive(Clone, Copy)]
+struct Broken<'a> {
+    pool: &'a Pool,
+    rule: Refusal,
+    place: usize,
 }
 
-// The first that breaks the rule, of those that have the place.
-fn broken(pool: &Pool, rule: Refusal, place: usize) -> Option<Wrong> {
-    let counts = Counts::of(pool);
-    if let Refusal::CountsOutOfRange = rule {
-        return Some(wrong_counts(counts, pool.maxg));
+impl Broken<'_> {
+    fn w(self) -> Count {
+        let n = self.pool.w;
+        Count { letter: 'W', n }
     }
-    wrong_guard(pool, counts, rule, place)
-        .or_else(|| wrong_buffer(pool, counts, rule, place))
-        .or_else(|| wrong_worker(pool, counts, rule, place))
+
+    fn g(self) -> Count {
+        let n = self.pool.g;
+        Count { letter: 'G', n }
+    }
+
+    fn b(self) -> Count {
+        let n = self.pool.b;
+        Count { letter: 'B', n }
+    }
+
+    // 21. One of the four is at fault, so the last is if none of the others is.
+    fn count(self) -> Wrong {
+        let counts = [(self.w(), 8), (self.g(), 32), (self.b(), 256)];
+        match counts
+            .iter()
+            .find(|(count, most)| !(1..=*most).contains(&count.n))
+        {
+            Some((count, most)) => Wrong::Range(*count, *most),
+            None => Wrong::Maxg(self.pool.maxg, self.g()),
+        }
+    }
+
+    fn guard(self) -> Option<Wrong> {
+        let (pool, i) = (self.pool, self.place);
+        if 32 <= i {
+            return None;
+        }
+        let guard = Guard {
+            taken: pool.taken[i],
+            employer: pool.employer[i],
+            posted: pool.posted[i],
+            slot_id: pool.slot_id[i],
+            slot_version: pool.slot_version[i],
+        };
+        let (w, g, b) = (self.w(), self.g(), self.b());
+        let entry = Entry::Guard(i);
+        match self.rule {
+            Refusal::EntryBeyondCounts => {
+                (g.n as usize <= i && !guard.is_zero()).then_some(Wrong::GuardBeyond(i, g, guard))
+            }
+            Refusal::KindUnknown => above(entry, "employer is no worker", guard.employer, w),
+            Refusal::IdOutOfRange => {
+                let posted = above(entry, "posted id is no buffer", guard.posted, b);
+                posted.or(above(
+                    entry,
+                    "slot holds an id that is no buffer",
+                    guard.slot_id,
+                    b,
+                ))
+            }
+            _ => None,
+        }
+    }
+
+    fn buffer(self) -> Option<Wrong> {
+        let id = self.place;
+        let state = *self.pool.states.get(id.checked_sub(1)?)?;
+        let b = self.b();
+        match self.rule {
+            Refusal::EntryBeyondCounts => {
+                ((b.n as usize) < id && state != 0).then_some(Wrong::BufferBeyond(id, b, state))
+            }
+            Refusal::KindUnknown => (2 < state).then_some(Wrong::Unknown {
+                entry: Entry::Buffer(id),
+                field: "state is none of the three",
+                n: u32::from(state),
+            }),
+            _ => None,
+        }
+    }
+
+    fn worker(self) -> Option<Wrong> {
+        let no = self.place;
+        let k = no.checked_sub(1)?;
+        let worker = *self.pool.workers.get(k)?;
+        let set = *self.pool.sets.get(k)?;
+        let (w, b) = (self.w(), self.b());
+        let entry = Entry::Worker(no);
+        match self.rule {
+            Refusal::EntryBeyondCounts => {
+                let held = Holding { worker, set };
+                ((w.n as usize) < no && !held.is_zero()).then_some(Wrong::WorkerBeyond(no, w, held))
+            }
+            // It is the label's fault, since no guard and no buffer was found.
+            Refusal::KindUnknown => Some(Wrong::Unknown {
+                entry,
+                field: "label is none that there is",
+                n: worker.label,
+            }),
+            Refusal::IdOutOfRange => above(entry, "v is no buffer", worker.v, b)
+                .or(above(entry, "h has an id that is no buffer", worker.h.id, b))
+                .or((!set.within(b.n)).then_some(Wrong::Member(entry, b))),
+            Refusal::RegisterOutOfRange => wrong_register(entry, worker, self.g()),
+            _ => None,
+        }
+    }
+
+    // The first that breaks the rule, of those that have the place.
+    fn wrong(self) -> Option<Wrong> {
+        if let Refusal::CountsOutOfRange = self.rule {
+            return Some(self.count());
+        }
+        self.guard()
+            .or_else(|| self.buffer())
+            .or_else(|| self.worker())
+    }
 }
 
 // The soundness test of a record, in words.
@@ -166,12 +168,12 @@ pub(crate) struct Soundness<'a>(pub(crate) &'a Pool);
 impl fmt::Display for Soundness<'_> {
     fn fmt<W: fmt::Write>(&self, f: &mut fmt::Formatter<W>) -> fmt::Result {
         let pool = self.0;
-        match pool.soundness() {
-            Verdict::Fine => write!(f, "the record is sound"),
-            Verdict::Fault(rule, place) => match broken(pool, rule, place) {
-                Some(wrong) => write!(f, "{wrong}"),
-                None => Ok(()),
-            },
+        let Verdict::Fault(rule, place) = pool.soundness() else {
+            return write!(f, "the record is sound");
+        };
+        match (Broken { pool, rule, place }).wrong() {
+            Some(wrong) => write!(f, "{wrong}"),
+            None => Ok(()),
         }
     }
 }
