@@ -38,11 +38,11 @@ impl<P: Print> Story<'_, P> {
     ) -> io::Result<()>
         requires { F.IsAlwaysCallable begin }
     {
-        let mut answer = self.left(begin(self.pool, w));
-        print!(self.rt; "{what}: {}", InWords(answer))?;
+        let begun = self.left(begin(self.pool, w));
+        print!(self.rt; "{what}: {}", InWords(begun))?;
         let mut list = [0u32; 3];
         for _ in 0..32u32 {
-            answer = self.left(self.pool.advance(w, &mut list));
+            let answer = self.left(self.pool.advance(w, &mut list));
             print!(self.rt; ", {}", InWords(answer))?;
             if !matches!(answer, Answer::At(_)) {
                 break;
