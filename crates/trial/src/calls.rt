@@ -26,7 +26,7 @@ fn sound_answer(pool: Pool) -> Answer {
 }
 
 impl Call {
-    // The call of a line, if the word is one's and has as many numbers as that takes. The commonest comes first.
+    // The call that a line makes, if its word is that of a call and has as many numbers as that takes. The commonest comes first.
     pub fn of(word: &[u8], numbers: &[u32]) -> Option<Call> {
         match (word, numbers) {
             (b"advance", &[w]) => Some(Call::Advance(WorkerNo(w))),

@@ -91,6 +91,7 @@ impl<R: io::Read> Lines<R> {
         let to = self.find_feed()?;
         let from = self.start;
         self.start = to + 1;
+        // Shared whole, and then the part: a part of an array behind a `&mut` is lent alone only in a struct of plain data.
         let lines = &*self;
         Ok(&lines.buffer[from..to])
     }

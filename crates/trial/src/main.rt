@@ -55,6 +55,7 @@ impl Bench {
         Ok(())
     }
 
+    // A line of the input: a call, the lent list, or a part of the record.
     fn line(&mut self, line: &[u8]) -> Result<(), Stop> {
         let word = read(line, &mut self.numbers)?;
         let numbers = self.numbers.as_slice();

@@ -4,6 +4,7 @@ use pool::{Answer, Pool};
 use std::fmt;
 
 // Numbers, each after a space.
+// Kept: beside `Ids` of `show`, since a wrong engine is tried with the engine's crates and `trial` alone (tools/faults).
 #[derive(Clone, Copy, Debug, PartialEq, Eq)]
 pub struct Spaced<'a>(pub &'a [u32]);
 
