@@ -3,159 +3,168 @@
 // guards and 3 buffers.
 #![tactic(auto)]
 
-use pool::{Answer, BufferId, GuardNo, Outcome, Pool, Verdict, WorkerNo};
-use show::print;
-use show::refusal::print_answer_with_reason;
+use pool::{Answer, BufferId, GuardNo, Pool, Verdict, WorkerNo};
+use show::refusal::WithReason;
 use std::io;
 
-// One line: what was changed, which call was made, and its answer.
-fn tell(rt: &impl Print, change: &[u8], call: &[u8], pool: Pool, answer: Answer) -> io::Result<()> {
-    print(rt, change)?;
-    print(rt, b"; ")?;
-    print(rt, call)?;
-    print(rt, b": ")?;
-    print_answer_with_reason(rt, pool, answer)?;
-    print(rt, b"\n")?;
-    Ok(())
-}
+const ONE: WorkerNo = WorkerNo(1);
 
-// The same of a call that hands the record back: a refused one as it was.
-fn tell_outcome(rt: &impl Print, change: &[u8], call: &[u8], outcome: Outcome) -> io::Result<()> {
-    let answer = outcome.answer;
-    tell(rt, change, call, outcome.pool, answer)?;
-    Ok(())
-}
-
-fn fresh() -> Pool {
-    let made = Pool::make(2, 4, 3);
-    made.pool
+// One line: what is changed in a fresh pool, which call is then made, and its answer. A call that is refused leaves the record as it was.
+fn tell<D: FnOnce(&mut Pool), C: FnOnce(Pool) -> Answer>(
+    rt: &impl Print,
+    change: &str,
+    damage: D,
+    name: &str,
+    call: C,
+) -> io::Result<()>
+    requires damages { D.IsAlwaysCallable damage }
+    requires calls { C.IsAlwaysCallable call }
+{
+    let mut p = Pool::make(2, 4, 3).pool;
+    damage(&mut p);
+    let told = WithReason {
+        pool: &p,
+        answer: call(p),
+    };
+    println!(rt; "{change}; {name}: {told}")
 }
 
 // The soundness test by itself, as an answer.
 fn soundness(pool: Pool) -> Answer {
-    let verdict = pool.soundness();
-    match verdict {
+    match pool.soundness() {
         Verdict::Fine => Answer::Clear,
         Verdict::Fault(rule, place) => Answer::Refused(rule, place),
     }
 }
 
 fn counts(rt: &impl Print) -> io::Result<()> {
-    let mut p = fresh();
-    p.maxg = 4;
-    tell_outcome(rt, b"MAXG = 4", b"hire", p.hire(WorkerNo(1)))?;
-    Ok(())
+    tell(
+        rt,
+        "MAXG = 4",
+        |p| p.maxg = 4,
+        "hire",
+        |p| p.hire(ONE).answer,
+    )
 }
 
 fn beyond_counts(rt: &impl Print) -> io::Result<()> {
-    let mut p = fresh();
-    p.taken[5] = true;
-    tell_outcome(rt, b"guard 5 taken", b"take", p.take(BufferId(1)))?;
-    p = fresh();
-    p.states[9] = 1;
     tell(
         rt,
-        b"buffer 10 in service",
-        b"leaving count",
-        p,
-        p.leaving_count(),
+        "guard 5 taken",
+        |p| p.taken[5] = true,
+        "take",
+        |p| p.take(BufferId(1)).answer,
     )?;
-    p = fresh();
-    let none = p.sets[2];
-    p.sets[2] = none.with(1);
     tell(
         rt,
-        b"worker 3's set = {1}",
-        b"set size",
-        p,
-        p.set_size(WorkerNo(1)),
+        "buffer 10 in service",
+        |p| p.states[9] = 1,
+        "leaving count",
+        |p| p.leaving_count(),
     )?;
-    Ok(())
+    let damage = |p: &mut Pool| p.sets[2] = p.sets[2].with(1);
+    tell(
+        rt,
+        "worker 3's set = {1}",
+        damage,
+        "set size",
+        |p| p.set_size(ONE),
+    )
 }
 
 fn kinds(rt: &impl Print) -> io::Result<()> {
-    let mut p = fresh();
-    p.employer[3] = 7;
-    let fire = p.fire(WorkerNo(1), GuardNo(3));
-    tell_outcome(rt, b"guard 3's employer = 7", b"fire", fire)?;
-    p = fresh();
-    p.states[1] = 5;
-    tell(rt, b"buffer 2's state = 5", b"audit", p, p.audit())?;
-    p = fresh();
-    let mut first = p.workers[0];
-    first.label = 3;
-    p.workers[0] = first;
-    let mut list: [u32; 0] = [];
-    let advance = p.advance(WorkerNo(1), &mut list);
-    tell_outcome(rt, b"worker 1's label = 3", b"advance", advance)?;
-    Ok(())
+    tell(
+        rt,
+        "guard 3's employer = 7",
+        |p| p.employer[3] = 7,
+        "fire",
+        |p| p.fire(ONE, GuardNo(3)).answer,
+    )?;
+    tell(
+        rt,
+        "buffer 2's state = 5",
+        |p| p.states[1] = 5,
+        "audit",
+        |p| p.audit(),
+    )?;
+    tell(
+        rt,
+        "worker 1's label = 3",
+        |p| p.workers[0].label = 3,
+        "advance",
+        |p| p.advance(ONE, &mut []).answer,
+    )
 }
 
 fn ids(rt: &impl Print) -> io::Result<()> {
-    let mut p = fresh();
-    p.slot_id[0] = 4;
-    let ask = p.ask(WorkerNo(1), BufferId(1));
-    tell_outcome(rt, b"guard 0's slot's id = 4", b"ask", ask)?;
-    p = fresh();
-    let mut second = p.workers[1];
-    second.v = 9;
-    p.workers[1] = second;
-    let post = p.post(WorkerNo(1), GuardNo(0), BufferId(1));
-    tell_outcome(rt, b"worker 2's v = 9", b"post", post)?;
-    Ok(())
+    tell(
+        rt,
+        "guard 0's slot's id = 4",
+        |p| p.slot_id[0] = 4,
+        "ask",
+        |p| p.ask(ONE, BufferId(1)).answer,
+    )?;
+    tell(
+        rt,
+        "worker 2's v = 9",
+        |p| p.workers[1].v = 9,
+        "post",
+        |p| p.post(ONE, GuardNo(0), BufferId(1)).answer,
+    )
 }
 
 fn registers(rt: &impl Print) -> io::Result<()> {
-    let mut p = fresh();
-    let mut second = p.workers[1];
-    second.label = 18;
-    second.attempts = 3;
-    p.workers[1] = second;
-    let give_up = p.give_up(WorkerNo(1), &[]);
-    tell_outcome(
+    let damage = |p: &mut Pool| {
+        p.workers[1].label = 18;
+        p.workers[1].attempts = 3;
+    };
+    tell(
         rt,
-        b"worker 2's label = 18, attempts = 3",
-        b"give up",
-        give_up,
-    )?;
-    Ok(())
+        "worker 2's label = 18, attempts = 3",
+        damage,
+        "give up",
+        |p| p.give_up(ONE, &[]).answer,
+    )
 }
 
 // The earlier rule decides, although guards are asked before workers; and within a rule the lowest number.
 fn more_than_one(rt: &impl Print) -> io::Result<()> {
-    let mut p = fresh();
-    p.posted[0] = 4;
-    let mut first = p.workers[0];
-    first.label = 3;
-    p.workers[0] = first;
+    let damage = |p: &mut Pool| {
+        p.posted[0] = 4;
+        p.workers[0].label = 3;
+    };
     tell(
         rt,
-        b"guard 0's posted id = 4, worker 1's label = 3",
-        b"soundness",
-        p,
-        soundness(p),
+        "guard 0's posted id = 4, worker 1's label = 3",
+        damage,
+        "soundness",
+        soundness,
     )?;
-    p = fresh();
-    p.employer[3] = 7;
-    p.employer[1] = 3;
+    let damage = |p: &mut Pool| {
+        p.employer[3] = 7;
+        p.employer[1] = 3;
+    };
     tell(
         rt,
-        b"guard 3's employer = 7, guard 1's employer = 3",
-        b"soundness",
-        p,
-        soundness(p),
-    )?;
-    Ok(())
+        "guard 3's employer = 7, guard 1's employer = 3",
+        damage,
+        "soundness",
+        soundness,
+    )
 }
 
 fn main(rt: HostRuntime) -> io::Result<()> {
-    let sound = fresh();
-    tell_outcome(&rt, b"nothing changed", b"hire", sound.hire(WorkerNo(1)))?;
+    tell(
+        &rt,
+        "nothing changed",
+        |_| {},
+        "hire",
+        |p| p.hire(ONE).answer,
+    )?;
     counts(&rt)?;
     beyond_counts(&rt)?;
     kinds(&rt)?;
     ids(&rt)?;
     registers(&rt)?;
-    more_than_one(&rt)?;
-    Ok(())
+    more_than_one(&rt)
 }

@@ -1,63 +1,68 @@
 // The lines that make a call.
-use crate::words::Word;
 use pool::{Answer, BufferId, GuardNo, Outcome, Pool, Verdict, WorkerNo};
 
-// More numbers than any line has: what `arity` says of a word that is no call.
-const NO_CALL: usize = 1000;
-
-// How many numbers the call takes.
-pub fn arity(word: Word) -> usize {
-    match word {
-        Word::Make => 3,
-        Word::Hire => 1,
-        Word::Fire => 2,
-        Word::Post => 3,
-        Word::Give => 1,
-        Word::Take => 1,
-        Word::Ask => 2,
-        Word::Advance => 1,
-        Word::Size => 1,
-        Word::Leaving => 0,
-        Word::Audit => 0,
-        Word::Sound => 0,
-        _ => NO_CALL,
-    }
+#[derive(Clone, Copy)]
+pub enum Call {
+    Make(u32, u32, u32),
+    Hire(WorkerNo),
+    Fire(WorkerNo, GuardNo),
+    Post(WorkerNo, GuardNo, BufferId),
+    Give(WorkerNo),
+    Take(BufferId),
+    Ask(WorkerNo, BufferId),
+    Advance(WorkerNo),
+    Size(WorkerNo),
+    Leaving,
+    Audit,
+    Sound,
 }
 
 // What the soundness test found, as an answer.
-fn sound_answer(found: Verdict) -> Answer {
-    match found {
+fn sound_answer(pool: Pool) -> Answer {
+    match pool.soundness() {
         Verdict::Fine => Answer::Clear,
         Verdict::Fault(rule, place) => Answer::Refused(rule, place),
     }
 }
 
-// The call with its numbers, as many as it takes, and the lent list. A word that is no call is not handed in.
-pub fn make_call(pool: Pool, word: Word, a: u32, b: u32, c: u32, list: &mut [u32]) -> Outcome {
-    match word {
-        Word::Make => Pool::make(a, b, c),
-        Word::Hire => pool.hire(WorkerNo(a)),
-        Word::Fire => pool.fire(WorkerNo(a), GuardNo(b)),
-        Word::Post => pool.post(WorkerNo(a), GuardNo(b), BufferId(c)),
-        Word::Give => pool.give_up(WorkerNo(a), list),
-        Word::Take => pool.take(BufferId(a)),
-        Word::Ask => pool.ask(WorkerNo(a), BufferId(b)),
-        Word::Advance => pool.advance(WorkerNo(a), list),
-        Word::Size => Outcome {
-            answer: pool.set_size(WorkerNo(a)),
-            pool: pool,
-        },
-        Word::Leaving => Outcome {
-            answer: pool.leaving_count(),
-            pool: pool,
-        },
-        Word::Audit => Outcome {
-            answer: pool.audit(),
-            pool: pool,
-        },
-        _ => Outcome {
-            answer: sound_answer(pool.soundness()),
-            pool: pool,
-        },
+impl Call {
+    // The call that a line makes, if its word is that of a call and has as many numbers as that takes. The commonest comes first.
+    pub fn of(word: &[u8], numbers: &[u32]) -> Option<Call> {
+        match (word, numbers) {
+            (b"advance", &[w]) => Some(Call::Advance(WorkerNo(w))),
+            (b"make", &[w, g, b]) => Some(Call::Make(w, g, b)),
+            (b"hire", &[w]) => Some(Call::Hire(WorkerNo(w))),
+            (b"fire", &[w, guard]) => Some(Call::Fire(WorkerNo(w), GuardNo(guard))),
+            (b"post", &[w, guard, id]) => {
+                Some(Call::Post(WorkerNo(w), GuardNo(guard), BufferId(id)))
+            }
+            (b"give", &[w]) => Some(Call::Give(WorkerNo(w))),
+            (b"take", &[id]) => Some(Call::Take(BufferId(id))),
+            (b"ask", &[w, id]) => Some(Call::Ask(WorkerNo(w), BufferId(id))),
+            (b"size", &[w]) => Some(Call::Size(WorkerNo(w))),
+            (b"leaving", &[]) => Some(Call::Leaving),
+            (b"audit", &[]) => Some(Call::Audit),
+            (b"sound", &[]) => Some(Call::Sound),
+            _ => None,
+        }
+    }
+
+    // Makes the call, with the lent list.
+    pub fn make(self, pool: Pool, list: &mut [u32]) -> Outcome {
+        let answer = match self {
+            Call::Make(w, g, b) => return Pool::make(w, g, b),
+            Call::Hire(w) => return pool.hire(w),
+            Call::Fire(w, guard) => return pool.fire(w, guard),
+            Call::Post(w, guard, id) => return pool.post(w, guard, id),
+            Call::Give(w) => return pool.give_up(w, list),
+            Call::Take(id) => return pool.take(id),
+            Call::Ask(w, id) => return pool.ask(w, id),
+            Call::Advance(w) => return pool.advance(w, list),
+            Call::Size(w) => pool.set_size(w),
+            Call::Leaving => pool.leaving_count(),
+            Call::Audit => pool.audit(),
+            Call::Sound => sound_answer(pool),
+        };
+        Outcome { answer, pool }
     }
 }

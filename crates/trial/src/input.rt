@@ -1,97 +1,98 @@
-// Standard input, line by line, out of a lent buffer.
-ghost use Rattle.std.specs.Prelude.{◌≡◌, ◌≤◌, ◌⊎◌, length};
+// The input, line by line.
+ghost use Rattle.std.specs.Prelude.{◌≡◌, ◌<◌, ◌≤◌, IsTrue, IfOk, IfSome};
+ghost use Rattle.trial.specs.declared.input.TheConstants.{CAPACITY};
 
+use crate::stop::Stop;
 use std::io;
 
-// Where a line stands in the buffer, without its line feed, and how far the buffer is filled. `found` is false where no whole line is left.
-#[derive(Clone, Copy)]
-pub struct Line {
-    pub found: bool,
-    pub from: usize,
-    pub to: usize,
-    pub filled: usize,
+// A line with its line feed fits.
+const CAPACITY: usize = 65536;
+
+// What is read and not yet handed out stands in the buffer, from `start` up to `end`.
+#[derive(Drop)]
+pub struct Lines<R> {
+    source: R,
+    buffer: [u8; CAPACITY],
+    start: usize,
+    end: usize,
+
+    ghost within: { (start ≤ end) × (end ≤ CAPACITY) },
 }
 
-// The place of the first line feed at or after a place, or `filled`.
-fn feed_from(buffer: &[u8], from: usize, filled: usize) -> usize
-    ensures { (result ≡ filled) ⊎ ((from ≤ result) × (result ≤ length buffer.now)) }
-{
-    if buffer.len() < filled {
-        return filled;
-    }
-    for at in from..filled {
-        if buffer[at] == b'\n' {
-            return at;
+impl<R: io::Read> Lines<R> {
+    pub fn new(source: R) -> Lines<R> {
+        Lines {
+            source,
+            buffer: [0; CAPACITY],
+            start: 0,
+            end: 0,
         }
     }
-    filled
-}
 
-// Moves what stands from a place up to `filled` to the start, and answers how much that is.
-fn to_front(buffer: &mut [u8], from: usize, filled: usize) -> usize {
-    if buffer.len() < filled {
-        return 0;
+    // The place of the first line feed at or after a place.
+    fn feed_from(&self, from: usize) -> Option<usize>
+        requires { from ≤ self.now.end }
+        ensures { IfSome result (λ to. (from ≤ to) × (to < self.now.end)) }
+    {
+        let n = self.buffer[from..self.end]
+            .iter()
+            .position(|byte| *byte == b'\n')?;
+        Some(from + n)
     }
-    let mut to: usize = 0;
-    for at in from..filled {
-        buffer[to] = buffer[at];
-        to += 1;
-    }
-    to
-}
 
-// Reads once behind what is filled, and answers how far it is filled then. Input that cannot be read counts as ended.
-fn read_more<R: io::Read>(input: &mut R, buffer: &mut [u8], filled: usize) -> usize {
-    if buffer.len() <= filled {
-        return filled;
+    // Moves what is left to the front.
+    fn to_front(&mut self)
+        ensures { self.new.start ≡ 0 }
+    {
+        self.buffer.copy_within(self.start..self.end, 0);
+        self.end -= self.start;
+        self.start = 0;
     }
-    match input.read(&mut buffer[filled..]) {
-        Ok(got) => filled + got,
-        Err(_) => filled,
-    }
-}
 
-// The line that begins at a place. Where the buffer has no more than its beginning, that is moved to the front and more is read.
-pub fn next_line<R: io::Read>(input: &mut R, buffer: &mut [u8], from: usize, filled: usize) -> Line
-    ensures { (result.from ≤ result.to) × (result.to ≤ length buffer.new) }
-{
-    let to = feed_from(buffer, from, filled);
-    if to < filled {
-        return Line {
-            found: true,
-            from: from,
-            to: to,
-            filled: filled,
-        };
+    // Reads once behind what is there, and answers whether more is there now. Input that cannot be read counts as ended.
+    fn read_more(&mut self) -> bool
+        ensures start { self.new.start ≡ self.old.start }
+        ensures more { IsTrue result → self.old.end < self.new.end }
+    {
+        match self.source.read(&mut self.buffer[self.end..]) {
+            Ok(got) => {
+                self.end += got;
+                got > 0
+            }
+            Err(_) => false,
+        }
     }
-    let mut end = to_front(buffer, from, filled);
-    loop {
-        let more = read_more(input, buffer, end);
-        if buffer.len() < more {
-            return Line {
-                found: false,
-                from: 0,
-                to: 0,
-                filled: more,
-            };
+
+    // The place of the line feed that ends the next line. Where the buffer has no more than the line's beginning, more is read behind that.
+    fn find_feed(&mut self) -> Result<usize, Stop>
+        ensures { IfOk result (λ to. (self.new.start ≤ to) × (to < self.new.end)) }
+    {
+        if let Some(to) = self.feed_from(self.start) {
+            return Ok(to);
         }
-        if more <= end {
-            return Line {
-                found: false,
-                from: 0,
-                to: 0,
-                filled: end,
-            };
+        self.to_front();
+        loop {
+            let seen = self.end;
+            if !self.read_more() {
+                return Err(if seen == 0 {
+                    Stop::Ended
+                } else {
+                    Stop::NotUnderstood
+                });
+            }
+            if let Some(to) = self.feed_from(seen) {
+                return Ok(to);
+            }
         }
-        let to = feed_from(buffer, end, more);
-        if to < more {
-            return Line {
-                found: true,
-                from: 0,
-                to: to,
-                filled: more,
-            };
-        }
-        end = more;
+    }
+
+    // The next line, without its line feed. Where the input ends, nothing may be left of a line without its end.
+    pub fn next_line(&mut self) -> Result<&[u8], Stop> {
+        let to = self.find_feed()?;
+        let from = self.start;
+        self.start = to + 1;
+        // Shared whole, and then the part: a part of an array behind a `&mut` is lent alone only in a struct of plain data.
+        let lines = &*self;
+        Ok(&lines.buffer[from..to])
     }
 }

@@ -1,138 +1,83 @@
-// The lines that set a part of the record. Each takes the line's numbers, and answers whether they have the form.
-ghost use Rattle.std.specs.Prelude.{◌≤◌};
+// The lines that set a part of the record.
+ghost use Rattle.std.specs.Prelude.{◌<◌, IfOk};
 
+use crate::stop::Stop;
 use idset::IdSet;
 use pool::Pool;
 use worker::{Slot, Worker};
 
-#[derive(Clone, Copy)]
-pub struct Setting {
-    pub understood: bool,
-    pub pool: Pool,
-}
-
-fn refused(pool: Pool) -> Setting {
-    Setting {
-        understood: false,
-        pool: pool,
-    }
-}
-
-// The entry of a worker's number; 8 for a number that no worker has.
-fn entry_of(no: u32) -> usize
-    ensures { result ≤ 8 }
+// The entry of a worker's number.
+fn entry_of(no: u32) -> Result<usize, Stop>
+    ensures { IfOk result (λ k. k < 8) }
 {
-    if no < 1 {
-        return 8;
+    if !(1..=8).contains(&no) {
+        return Err(Stop::NotUnderstood);
     }
-    if 8 < no {
-        return 8;
-    }
-    (no - 1) as usize
+    Ok(no as usize - 1)
 }
 
-pub fn set_pool(old: Pool, n: &[u32]) -> Setting {
-    if n.len() != 4 {
-        return refused(old);
-    }
-    let mut pool = Pool::blank(n[0], n[1], n[2]);
-    pool.maxg = n[3];
-    Setting {
-        understood: true,
-        pool: pool,
-    }
-}
-
-pub fn set_guard(mut pool: Pool, n: &[u32]) -> Setting {
-    if n.len() != 6 {
-        return refused(pool);
-    }
-    let no = n[0];
-    if 32 <= no {
-        return refused(pool);
-    }
-    if 1 < n[1] {
-        return refused(pool);
+fn set_guard(pool: &mut Pool, no: u32, taken: u32, fields: [u32; 4]) -> Result<(), Stop> {
+    if no >= 32 || taken > 1 {
+        return Err(Stop::NotUnderstood);
     }
     let i = no as usize;
-    pool.taken[i] = n[1] == 1;
-    pool.employer[i] = n[2];
-    pool.posted[i] = n[3];
-    pool.slot_id[i] = n[4];
-    pool.slot_version[i] = n[5];
-    Setting {
-        understood: true,
-        pool: pool,
-    }
+    pool.taken[i] = taken == 1;
+    pool.employer[i] = fields[0];
+    pool.posted[i] = fields[1];
+    pool.slot_id[i] = fields[2];
+    pool.slot_version[i] = fields[3];
+    Ok(())
 }
 
-pub fn set_states(mut pool: Pool, n: &[u32]) -> Setting {
-    if 256 < n.len() {
-        return refused(pool);
+fn states_of(numbers: &[u32]) -> Result<[u8; 256], Stop> {
+    let mut states = [0; 256];
+    if numbers.len() > states.len() {
+        return Err(Stop::NotUnderstood);
     }
-    let mut states = [0u8; 256];
-    for k in 0..n.len() {
-        let state = n[k];
-        if 255 < state {
-            return refused(pool);
-        }
-        states[k] = state as u8;
+    for (state, n) in states.iter_mut().zip(numbers) {
+        *state = u8::try_from(*n)?;
     }
-    pool.states = states;
-    Setting {
-        understood: true,
-        pool: pool,
-    }
+    Ok(states)
 }
 
-pub fn set_worker(mut pool: Pool, n: &[u32]) -> Setting {
-    if n.len() != 8 {
-        return refused(pool);
-    }
-    let k = entry_of(n[0]);
-    if 8 <= k {
-        return refused(pool);
-    }
-    let h = Slot {
-        id: n[4],
-        version: n[5],
-    };
-    pool.workers[k] = Worker {
-        label: n[1],
-        i: n[2],
-        v: n[3],
-        h: h,
-        attempts: n[6],
-        max: n[7],
-    };
-    Setting {
-        understood: true,
-        pool: pool,
-    }
-}
-
-pub fn set_set(mut pool: Pool, n: &[u32]) -> Setting {
-    if n.len() < 1 {
-        return refused(pool);
-    }
-    let k = entry_of(n[0]);
-    if 8 <= k {
-        return refused(pool);
-    }
+fn set_of(members: &[u32]) -> Result<IdSet, Stop> {
     let mut set = IdSet::empty();
-    for at in 1..n.len() {
-        let id = n[at];
-        if id < 1 {
-            return refused(pool);
+    for id in members {
+        if !(1..=256).contains(id) {
+            return Err(Stop::NotUnderstood);
         }
-        if 256 < id {
-            return refused(pool);
+        set = set.with(*id);
+    }
+    Ok(set)
+}
+
+// Sets what the line says.
+pub fn set_part(pool: &mut Pool, word: &[u8], numbers: &[u32]) -> Result<(), Stop> {
+    match (word, numbers) {
+        (b"pool", &[w, g, b, maxg]) => {
+            *pool = Pool::blank(w, g, b);
+            pool.maxg = maxg;
         }
-        set = set.with(id);
+        (b"guard", &[no, taken, employer, posted, id, version]) => {
+            set_guard(pool, no, taken, [employer, posted, id, version])?;
+        }
+        (b"states", states) => pool.states = states_of(states)?,
+        (b"worker", &[no, label, i, v, id, version, attempts, max]) => {
+            let k = entry_of(no)?;
+            pool.workers[k] = Worker {
+                label,
+                i,
+                v,
+                h: Slot { id, version },
+                attempts,
+                max,
+            };
+        }
+        (b"set", [no, members @ ..]) => {
+            let k = entry_of(*no)?;
+            pool.sets[k] = set_of(members)?;
+        }
+        _ => return Err(Stop::NotUnderstood),
     }
-    pool.sets[k] = set;
-    Setting {
-        understood: true,
-        pool: pool,
-    }
+    Ok(())
 }
