@@ -3,7 +3,7 @@
 // guards and 3 buffers.
 #![tactic(auto)]
 
-use pool::{Answer, BufferId, GuardNo, Pool, Verdict, WorkerNo};
+use pool::{Answer, BufferId, GuardNo, Pool, WorkerNo};
 use show::refusal::WithReason;
 use std::io;
 
@@ -32,8 +32,8 @@ fn tell<D: FnOnce(&mut Pool), C: FnOnce(Pool) -> Answer>(
 // The soundness test by itself, as an answer.
 fn soundness(pool: Pool) -> Answer {
     match pool.soundness() {
-        Verdict::Fine => Answer::Clear,
-        Verdict::Fault(rule, place) => Answer::Refused(rule, place),
+        Ok(()) => Answer::Clear,
+        Err(refused) => refused.into(),
     }
 }
 

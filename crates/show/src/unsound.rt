@@ -2,7 +2,7 @@
 // buffer and the worker of that number it means the first that breaks the rule, since a guard that did so would have been answered before any
 // buffer, and a buffer before any worker.
 use crate::wrong::{Count, Entry, Guard, Holding, Wrong};
-use pool::{Pool, Refusal, Verdict};
+use pool::{Pool, Refusal, Refused};
 use std::fmt;
 use worker::Worker;
 
@@ -168,7 +168,13 @@ pub(crate) struct Soundness<'a>(pub(crate) &'a Pool);
 impl fmt::Display for Soundness<'_> {
     fn fmt<W: fmt::Write>(&self, f: &mut fmt::Formatter<W>) -> fmt::Result {
         let pool = self.0;
-        let Verdict::Fault(rule, place) = pool.soundness() else {
+        let Err(
+            Refused {
+                refusal: rule,
+                place,
+            },
+        ) = pool.soundness()
+        else {
             return write!(f, "the record is sound");
         };
         match (Broken { pool, rule, place }).wrong() {

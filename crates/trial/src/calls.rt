@@ -1,5 +1,5 @@
 // The lines that make a call.
-use pool::{Answer, BufferId, GuardNo, Outcome, Pool, Verdict, WorkerNo};
+use pool::{Answer, BufferId, GuardNo, Outcome, Pool, WorkerNo};
 
 #[derive(Clone, Copy)]
 pub enum Call {
@@ -20,8 +20,8 @@ pub enum Call {
 // What the soundness test found, as an answer.
 fn sound_answer(pool: Pool) -> Answer {
     match pool.soundness() {
-        Verdict::Fine => Answer::Clear,
-        Verdict::Fault(rule, place) => Answer::Refused(rule, place),
+        Ok(()) => Answer::Clear,
+        Err(refused) => refused.into(),
     }
 }
 
