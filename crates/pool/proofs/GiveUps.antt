@@ -21,36 +21,43 @@ use Rattle.idset.proofs.Members.{id_true}
 use Rattle.idset.proofs.Marking.{met_before}
 use Rattle.pool.specs.declared.Pool.{Pool}
 use Rattle.worker.specs.Registers.{to, with_i}
-use Rattle.pool.specs.Answers.{Check, fine, refuse, answering, accepted}
+use Rattle.pool.specs.Answers.{fine, refuse, first, answering, accepted}
 use Rattle.pool.specs.Record.{state_of, worker_at, with_states, with_worker, with_set}
-use Rattle.pool.specs.Checks.{entry_check}
+use Rattle.pool.specs.Checks.{id_check, entry_check}
 use Rattle.pool.specs.Begins.{giving}
-use Rattle.pool.specs.ForProofs.Calls.{entry_by}
-use Rattle.pool.proofs.Told.{id_first}
+use Rattle.pool.proofs.Checked.{buffer}
 
 -- ---- the walk that judges
 
--- entry k, of which the marks say whether an earlier one equals it
-pub entry_judged : (p : Pool) (ids : List ℕ) (k : ℕ) {s : IdSet} {again : Bool} {c : Check} → p.b ≤ 256 → s ≡ set_of (among_first ids k)
-    → again ≡ member_of s (get_or ids k 0) → c ≡ entry_by p (get_or ids k 0) again k → c ≡ entry_check p ids k
-unfolding entry_check when
-entry_judged p ids k {s} {again} {c} few e h q =
-    q ∙ id_first p id k (rest again) ∙ under (ltb id 1) refl (ltb p.b id) refl ∙ sym (id_first p id k (rest (among_first ids k id)))
-  where
-    id : ℕ
-    id = get_or ids k 0
+-- entry k names no buffer
+pub entry_stops : (p : Pool) (ids : List ℕ) (k : ℕ) {n place : ℕ} → id_check p (get_or ids k 0) k ≡ refuse n place → entry_check p ids k ≡ refuse n place
+unfolding entry_check first
+entry_stops p ids k e = rw e refl
 
-    rest : Bool → Check
-    rest t = when t (refuse 10 k) (unless (eqb (state_of p id) 1) (refuse 11 k) fine)
+-- it names one: then the marks say whether an earlier one equals it, and its state whether it is in service
+module _ (p : Pool) (ids : List ℕ) (k : ℕ) {s : IdSet} {again : Bool} (few : p.b ≤ 256) (e : s ≡ set_of (among_first ids k))
+    (h : again ≡ member_of s (get_or ids k 0)) (named : id_check p (get_or ids k 0) k ≡ fine) where
+  id : ℕ
+  id = get_or ids k 0
 
-    under : (low : Bool) → ltb id 1 ≡ low → (high : Bool) → ltb p.b id ≡ high
-        → when low (refuse 9 k) (when high (refuse 9 k) (rest again)) ≡ when low (refuse 9 k) (when high (refuse 9 k) (rest (among_first ids k id)))
-    under true low high up = refl
-    under false low true up = refl
-    under false low false up =
-        let lo = ltb-false id 1 low in
-        let hi = ltb-false p.b id up in
-        ap rest (h ∙ met_before ids k e id (id_true id lo (omega arith)))
+  judged : entry_check p ids k ≡ when again (refuse 10 k) (unless (eqb (state_of p (get_or ids k 0)) 1) (refuse 11 k) fine)
+  unfolding entry_check first id
+  judged =
+      let b = buffer p id k named in
+      rw (named, h ∙ met_before ids k e id (id_true id b.some (omega (arith, b.most)))) refl
+
+  pub entry_repeats : again ≡ true → entry_check p ids k ≡ refuse 10 k
+  unfolding when
+  entry_repeats q = rw q at judged
+
+  module _ (q : again ≡ false) {at : ℕ} (there : at ≡ get_or ids k 0 - 1) where
+    pub entry_unserved : (get_or p.states at 0 ≡ 1 → ⊥) → entry_check p ids k ≡ refuse 11 k
+    unfolding when unless
+    entry_unserved n = rw (q, ne_eqb (state_of p (get_or ids k 0)) 1 (rw there at n)) at judged
+
+    pub entry_passes : get_or p.states at 0 ≡ 1 → entry_check p ids k ≡ fine
+    unfolding when unless
+    entry_passes n = rw (q, eq-eqb (state_of p (get_or ids k 0)) 1 (rw there at n)) at judged
 
 -- ---- one buffer leaves
 

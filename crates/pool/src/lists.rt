@@ -6,29 +6,12 @@ ghost use Rattle.basics.specs.Among.{among};
 ghost use Rattle.idset.specs.Members.{is_id, set_of};
 ghost use Rattle.pool.specs.Answers.{verdict};
 ghost use Rattle.pool.specs.Checks.{list_check};
-ghost use Rattle.pool.specs.ForProofs.Calls.{entry_by};
 
 use crate::{Pool, Refusal, Refused};
 use idset::{IdSet, mark};
 
 impl Pool {
-    // 9, 10, 11, of an id that an earlier entry equals or not.
-    #[tactic(auto, using(crate::proofs::Told::checks))]
-    fn entry_check(&self, id: u32, again: bool, place: usize) -> Result<(), Refused>
-        requires { self.now.b ≤ 256 }
-        ensures { verdict result ≡ entry_by self.now id again place }
-    {
-        let at = self.id_check(id, place)?;
-        if again {
-            return Err(Refusal::BufferRepeated.at(place));
-        }
-        if self.states[at] != 1 {
-            return Err(Refusal::BufferInWrongState.at(place));
-        }
-        Ok(())
-    }
-
-    // The first entry at fault decides; where none is, the list's ids as a set.
+    // 9, 10, 11: the first entry at fault decides. Where none is, the list's ids as a set.
     pub(crate) fn list_check(&self, ids: &[u32]) -> Result<IdSet, Refused>
         requires { self.now.b ≤ 256 }
         ensures check { verdict result ≡ list_check self.now ids.now (length ids.now) }
@@ -36,8 +19,13 @@ impl Pool {
     {
         let mut met = IdSet::empty();
         for (place, id) in ids.iter().enumerate() {
-            let again = mark(&mut met.words, *id);
-            self.entry_check(*id, again, place)?;
+            let at = self.id_check(*id, place)?;
+            if mark(&mut met.words, *id) {
+                return Err(Refusal::BufferRepeated.at(place));
+            }
+            if self.states[at] != 1 {
+                return Err(Refusal::BufferInWrongState.at(place));
+            }
         }
         Ok(met)
     }

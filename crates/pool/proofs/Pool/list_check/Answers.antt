@@ -1,27 +1,42 @@
 -- `pool::Pool::list_check` meets its contract. Assumes nothing.
-use Rattle.std.proofs.Common.{◌∙◌, rules, ap}
-use Rattle.idset.proofs.Marking.{met_none, met_alone, met_again}
+use Rattle.std.proofs.Common.{◌≡◌, true, false, ap, ◌∙◌, rules, eq-eqb, ne_eqb}
+use Rattle.basics.specs.Pick.{when, unless}
+use Rattle.idset.proofs.Marking.{met_none, met_alone, met_again, met_all}
 use Rattle.pool.specs.Answers.{verdict}
-use Rattle.pool.proofs.Told.{check_on, fine_by, refuse_by}
-use Rattle.pool.proofs.Firsts.{first_none, first_again, first_stop}
-use Rattle.pool.proofs.GiveUps.{entry_judged}
+use Rattle.pool.proofs.Told.{same_refusal, check_on, fine_by, refuse_by}
+use Rattle.pool.proofs.Firsts.{first_none, first_again, first_stop, first_done}
+use Rattle.pool.proofs.GiveUps.{entry_stops, entry_repeats, entry_unserved, entry_passes}
 use Rattle.pool.proofs.Pool.list_check.Goals as goal
 
 pub loop-place-init : goal.loop-place-init
 loop-place-init c = (first_none _, met_none c.args.ids.now c.empty-met.ensures)
 
-pub returns-in_err-entry_check-clause-check : goal.returns-in_err-entry_check-clause-check
-returns-in_err-entry_check-clause-check c =
-    let p = c.args.self.now in
-    let entry = entry_judged p c.args.ids.now c.loop-place.place c.requires c.loop-place.invariant.1 c.mark-again.ensures.met c.entry_check.ensures in
-    let found = refuse_by c.entry_check.result entry c.in_err-entry_check.was in
-    check_on _ c.in_err-entry_check.was c.from_residual.ensures.1 (ap verdict c.in_err-entry_check.was ∙ first_stop _ c.loop-place.place _ _ _ c.loop-place.invariant.0 found (search rules))
+pub returns-in_err-at-clause-check : goal.returns-in_err-at-clause-check
+returns-in_err-at-clause-check c =
+    let found = entry_stops c.args.self.now c.args.ids.now c.loop-place.place (refuse_by c.id_check.result c.id_check.ensures.check c.in_err-at.was) in
+    check_on _ c.in_err-at.was c.from_residual.ensures.1 (ap verdict c.in_err-at.was ∙ first_stop _ c.loop-place.place _ _ _ c.loop-place.invariant.0 found (search rules))
+
+pub returns-then-mark-clause-check : goal.returns-then-mark-clause-check
+returns-then-mark-clause-check c =
+    let named = fine_by c.id_check.result c.id_check.ensures.check c.in_ok-at.was in
+    let found = entry_repeats c.args.self.now c.args.ids.now c.loop-place.place c.requires c.loop-place.invariant.1 c.mark.ensures.met named c.if-mark.true in
+    same_refusal _ _ _ _ c.at.ensures.refusal c.at.ensures.place ∙ first_stop _ c.loop-place.place _ _ _ c.loop-place.invariant.0 found (search rules)
+
+pub returns-then-self-at-ne1-clause-check : goal.returns-then-self-at-ne1-clause-check
+returns-then-self-at-ne1-clause-check c =
+    let named = fine_by c.id_check.result c.id_check.ensures.check c.in_ok-at.was in
+    let found =
+    entry_unserved c.args.self.now c.args.ids.now c.loop-place.place c.requires c.loop-place.invariant.1 c.mark.ensures.met named c.if-mark.false
+    c.in_ok-at.ensures.entry.1 c.if-self-at-ne1.true in
+    same_refusal _ _ _ _ c.at-then-self-at-ne1.ensures.refusal c.at-then-self-at-ne1.ensures.place
+    ∙ first_stop _ c.loop-place.place _ _ _ c.loop-place.invariant.0 found (search rules)
 
 pub loop-place-preserved : goal.loop-place-preserved
 loop-place-preserved c =
-    let p = c.args.self.now in
     let ids = c.args.ids.now in
     let k = c.loop-place.place in
     let met = c.loop-place.invariant.1 in
-    let entry = entry_judged p ids k c.requires met c.mark-again.ensures.met c.entry_check.ensures in
-    (first_again _ k c.loop-place.invariant.0 (fine_by c.entry_check.result entry c.in_ok-entry_check.was), met_again ids k met (c.mark-again.ensures.marked (met_alone ids k met)))
+    let named = fine_by c.id_check.result c.id_check.ensures.check c.in_ok-at.was in
+    let found =
+    entry_passes c.args.self.now ids k c.requires met c.mark.ensures.met named c.if-mark.false c.in_ok-at.ensures.entry.1 c.if-self-at-ne1.false in
+    (first_again _ k c.loop-place.invariant.0 found, met_again ids k met (c.mark.ensures.marked (met_alone ids k met)))
