@@ -3,9 +3,8 @@
 use mathlib.Core.Path.{◌≡◌, ap}
 use mathlib.Core.Bool.{true}
 use mathlib.Core.List.{List}
-use Prim.Native.Nat.{ℕ, ◌-◌, ◌≤◌, ◌<◌}
+use Prim.Native.Nat.{ℕ, ◌≤◌, ◌<◌}
 use lib.ListN.{length}
-use native.Mathlib.Omega.{arith}
 use lib.Dec.{eqb, leb, ltb}
 use borrow.Author.Tests.{ltb-false, leb-false, eqb-true}
 use Rattle.basics.proofs.Picks.{when_back, unless_back}
@@ -146,9 +145,6 @@ unfolding give_up_check
 gives_up p w ids h = let a = first_both (begin_check p w) _ h in record { begun = begun p w a.0; list = a.1 }
 
 -- ---- what the code's next step asks
-
-pub number_below : {p : Pool} {w : WorkerNo} → Named p w → w.0 - 1 < 8
-number_below n = omega (arith, n)
 
 -- a sound record has at most 32 guards and 256 buffers
 pub few_guards : (p : Pool) (w : WorkerNo) → begin_check p w ≡ fine → p.g ≤ 32

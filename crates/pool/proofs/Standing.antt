@@ -2,7 +2,7 @@
 use mathlib.Core.Path.{◌≡◌, refl, sym}
 use mathlib.Core.Bool.{Bool, true, false, ◌||◌, false≢true}
 use mathlib.Core.List.{List, [], ◌∷◌}
-use Prim.Native.Nat.{ℕ, ◌-◌, ◌≤◌, ◌<◌}
+use Prim.Native.Nat.{ℕ, ◌-◌, ◌<◌}
 use native.Mathlib.Omega.{arith}
 use lib.Dec.{eqb, ltb}
 use lib.ListN.{length, get_or}
@@ -10,7 +10,7 @@ use borrow.Author.Tests.{eqb-true, eqb-false, ne_eqb, ltb-true, leb-true}
 use Rattle.basics.specs.Among.{among}
 use Rattle.basics.specs.Below.{all_below, any_below}
 use Rattle.basics.proofs.Picks.{when_back}
-use Rattle.basics.proofs.Truth.{or_cases, and_left, and_right}
+use Rattle.basics.proofs.Truth.{or_cases, and_left}
 use Rattle.basics.proofs.All.{all_at}
 use Rattle.basics.proofs.Any.{among_each}
 use Rattle.worker.specs.declared.Worker.{Worker}
@@ -58,12 +58,6 @@ pub at_guard : (g l : ℕ) (x : Worker) → place_in g x ≡ true → x.label �
 at_guard g l x h e short =
     or_cases (ltb x.i g) _ h (ltb-true x.i g) (λ past.
     absurd (false≢true (rw (e, short) at (and_left (eqb x.label 12 || eqb x.label 32) (eqb x.i g) past))))
-
--- and nowhere is it more
-pub place_most : (g : ℕ) (x : Worker) → place_in g x ≡ true → x.i ≤ g
-place_most g x h =
-    or_cases (ltb x.i g) _ h (λ t. let l = ltb-true x.i g t in omega arith) (λ past.
-    let e = eqb-true x.i g (and_right (eqb x.label 12 || eqb x.label 32) (eqb x.i g) past) in omega arith)
 
 pub ready : (p : Pool) (k l : ℕ) → Stands p k → (worker_at p k).label ≡ l → (eqb l 12 || eqb l 32) ≡ false → Ready p k
 ready p k l s e short =

@@ -1,11 +1,7 @@
 -- What a call says, from what its code and the checks that it calls answer; and the sets by which `search` finds it. Assumes nothing.
-use mathlib.Core.Path.{◌≡◌, refl, sym, ap, ◌∙◌}
+use mathlib.Core.Path.{◌≡◌, sym, ap, ◌∙◌}
 use Prim.Native.Nat.{ℕ}
-use mathlib.Core.Bool.{Bool, true, false}
-use lib.Dec.{ltb}
-use Rattle.basics.specs.Pick.{when}
 use Rattle.basics.proofs.Picks.{picks}
-use Rattle.pool.specs.Checks.{id_check}
 use Rattle.pool.specs.declared.Pool.{Pool}
 use Rattle.std.specs.Prelude.{Result, Ok, Err, IsErrAnd}
 use Rattle.pool.specs.declared.Answer.{Answer}
@@ -90,23 +86,6 @@ module _ {A : Type 0} (v : Result A Refused) (x : Answer) {r : Refused} where
   pub after_into : (a : Check) (p : Pool) (d : Told) → v ≡ Err r → verdict v ≡ a → x ≡ RefusedAt r.refusal r.place → answering (said x) p ≡ after_check a p d
   after_into a p d q e made = rw made (after_refuse v a p d e q)
 
--- the same of two checks, of which the first that refuses counts
-module _ {A B : Type 0} (v : Result A Refused) (u : Result B Refused) (a b : Check) (p : Pool) (d : Told) (e : verdict v ≡ a) where
-  pub after_first : {r : Refused} → v ≡ Err r → answering (refused (number_of r.refusal) r.place) p ≡ after_check (first a b) p d
-  unfolding first after_check
-  after_first q = rw (refuse_by v e q)
-
-  module _ (h : verdict u ≡ b) {y : A} (q : v ≡ Ok y) where
-    both : b ≡ first a b
-    unfolding first
-    both = rw (fine_by v e q)
-
-    pub after_second : {r : Refused} → u ≡ Err r → answering (refused (number_of r.refusal) r.place) p ≡ after_check (first a b) p d
-    after_second t = after_refuse u (first a b) p d (h ∙ both) t
-
-    pub after_both : {z : B} (x : Told) → u ≡ Ok z → x ≡ d → x ≡ after_check (first a b) p d
-    after_both x t = after_fine u x (first a b) p d (h ∙ both) t
-
 -- ---- after a check, by what it found
 
 module _ {c : Check} where
@@ -117,18 +96,6 @@ module _ {c : Check} where
   pub after_stops : {n place : ℕ} (p : Pool) (d : Told) → c ≡ refuse n place → answering (refused n place) p ≡ after_check c p d
   unfolding after_check
   after_stops p d e = rw e
-
--- the check of an id alone
-pub id_first : (p : Pool) (id place : ℕ) (b : Check)
-    → first (id_check p id place) b ≡ when (ltb id 1) (refuse 9 place) (when (ltb p.b id) (refuse 9 place) b)
-unfolding first id_check when
-id_first p id place b = go (ltb id 1) (ltb p.b id)
-  where
-    go : (t u : Bool)
-        → first (when t (refuse 9 place) (when u (refuse 9 place) fine)) b ≡ when t (refuse 9 place) (when u (refuse 9 place) b)
-    go true u = refl
-    go false true = refl
-    go false false = refl
 
 pub ruleset makes = (picks, same_pool)
 

@@ -1,6 +1,5 @@
 -- What is answered of a call on a record that is lent.
-use Rattle.std.specs.Prelude.{ℕ, Bool, Result, Ok, Err, eqb}
-use Rattle.basics.specs.Pick.{when, unless}
+use Rattle.std.specs.Prelude.{Result, Ok, Err}
 use Rattle.pool.specs.declared.Answer.{Answer}
 use Rattle.pool.specs.declared.Refused.{Refused}
 use Rattle.pool.specs.Answers.{Said, said, refused, number_of}

@@ -1,10 +1,9 @@
 -- `pool::Pool::list_check` meets its contract. Assumes nothing.
-use Rattle.std.proofs.Common.{◌≡◌, true, false, ap, ◌∙◌, rules, eq-eqb, ne_eqb}
-use Rattle.basics.specs.Pick.{when, unless}
-use Rattle.idset.proofs.Marking.{met_none, met_alone, met_again, met_all}
+use Rattle.std.proofs.Common.{ap, ◌∙◌, rules}
+use Rattle.idset.proofs.Marking.{met_none, met_alone, met_again}
 use Rattle.pool.specs.Answers.{verdict}
 use Rattle.pool.proofs.Told.{same_refusal, check_on, fine_by, refuse_by}
-use Rattle.pool.proofs.Firsts.{first_none, first_again, first_stop, first_done}
+use Rattle.pool.proofs.Firsts.{first_none, first_again, first_stop}
 use Rattle.pool.proofs.GiveUps.{entry_stops, entry_repeats, entry_unserved, entry_passes}
 use Rattle.pool.proofs.Pool.list_check.Goals as goal
 
