@@ -7,6 +7,7 @@ use mathlib.Core.Bool.{true, false≢true}
 use lib.ListN.{length}
 use lib.Dec.{eqb, leb, ltb}
 use borrow.Author.Tests.{leb-false, ltb-false}
+use Rattle.std.specs.Prelude.{Result, Ok, Err}
 use Rattle.basics.proofs.Picks.{when_both}
 use Rattle.grammar.specs.Line.{after_of, kind_of}
 use Rattle.grammar.specs.declared.Kind.{Kind}
@@ -14,8 +15,8 @@ use Rattle.grammar.specs.declared.Kind.TheVariants.{Make, Call, Repeat, End, Wro
 use Rattle.tables.specs.Write.{copies}
 use Rattle.tables.proofs.Laws.{write_length}
 use Rattle.schedule.specs.Text.{Block, is_end, line_with, block_of, block_at, lower}
-use Rattle.schedule.specs.declared.Read.{Read}
-use Rattle.schedule.specs.declared.Read.TheVariants.{TooLong, BadLine, Calls}
+use Rattle.schedule.specs.declared.Unread.{Unread}
+use Rattle.schedule.specs.declared.Unread.TheVariants.{TooLong, BadLine}
 use Rattle.schedule.specs.Read.{Reading, too_long, bad_line, calls, is_make, limited, judged, read_of, answered, filled, CallsAt, Faultless}
 
 calls_join : (s a b : List ℕ) → CallsAt s a → CallsAt s b → CallsAt s (a ++ b)
@@ -95,10 +96,9 @@ pub faultless : (s places : List ℕ) → read_of s ≡ calls places → Faultle
 faultless s places e = subst (Reads s) e (reads s)
 
 -- what the code answers of such a text
-abbrev Few : Read → Type 0
-Few TooLong = Unit {0}
-Few (BadLine n) = Unit {0}
-Few (Calls n) = n ≤ 100000
+abbrev Few : Result ℕ Unread → Type 0
+Few (Err e) = Unit {0}
+Few (Ok n) = n ≤ 100000
 
 few_told : (s : List ℕ) (x : Reading) → Reads s x → Few (answered x)
 few_told s too_long h = tt
@@ -111,21 +111,21 @@ filled_length (bad_line n) t = refl
 filled_length (calls places) t = write_length t 0 places
 
 -- n calls have their places in the table
-pub few_calls : (s t u : List ℕ) (n : ℕ) → Calls n ≡ answered (read_of s) → u ≡ filled (read_of s) t → length t ≡ 100000 → n ≤ length u
+pub few_calls : (s t u : List ℕ) (n : ℕ) → Ok n ≡ answered (read_of s) → u ≡ filled (read_of s) t → length t ≡ 100000 → n ≤ length u
 few_calls s t u n e f h =
     let few : n ≤ 100000 = subst Few (sym e) (few_told s (read_of s) (reads s)) in
     omega (arith, few, ap length f, filled_length (read_of s) t, h)
 
 -- what the answer tells of the reading
-abbrev pub ReadAs : Reading → Read → Type 0
-ReadAs x TooLong = x ≡ too_long
-ReadAs x (BadLine l) = x ≡ bad_line l
-ReadAs x (Calls n) = (places : List ℕ) × ((x ≡ calls places) × (n ≡ length places))
+abbrev pub ReadAs : Reading → Result ℕ Unread → Type 0
+ReadAs x (Err TooLong) = x ≡ too_long
+ReadAs x (Err (BadLine l)) = x ≡ bad_line l
+ReadAs x (Ok n) = (places : List ℕ) × ((x ≡ calls places) × (n ≡ length places))
 
 as_answered : (x : Reading) → ReadAs x (answered x)
 as_answered too_long = refl
 as_answered (bad_line l) = refl
 as_answered (calls places) = (places, (refl, refl))
 
-pub read_as : (s : List ℕ) (r : Read) → r ≡ answered (read_of s) → ReadAs (read_of s) r
+pub read_as : (s : List ℕ) (r : Result ℕ Unread) → r ≡ answered (read_of s) → ReadAs (read_of s) r
 read_as s r e = subst (ReadAs (read_of s)) (sym e) (as_answered (read_of s))

@@ -7,6 +7,7 @@ use mathlib.Core.Bool.{Bool, true, false, not}
 use lib.ListN.{length, get_or, set, length-set}
 use lib.Dec.{eqb}
 use borrow.Author.Tests.{lt-ltb, le-ltb, not-true, not-false}
+use Rattle.std.specs.Prelude.{Result, Ok, Err}
 use Rattle.basics.specs.Pick.{when}
 use Rattle.basics.specs.Below.{count_below, one}
 use Rattle.basics.proofs.Count.{count_again, count_le, one_le}
@@ -18,8 +19,8 @@ use Rattle.tables.specs.Write.{write_at}
 use Rattle.tables.proofs.Laws.{write_cons}
 use Rattle.schedule.specs.declared.Got.{Got}
 use Rattle.schedule.specs.declared.Put.{Put}
-use Rattle.schedule.specs.declared.Read.{Read}
-use Rattle.schedule.specs.declared.Read.TheVariants.{TooLong, BadLine, Calls}
+use Rattle.schedule.specs.declared.Unread.{Unread}
+use Rattle.schedule.specs.declared.Unread.TheVariants.{TooLong, BadLine}
 use Rattle.schedule.specs.Text.{Ready, lower, block_at, cap, tell, put}
 use Rattle.schedule.specs.Read.{Reading, too_long, bad_line, calls, is_make, line_number, judged, read_of, answered, filled}
 use Rattle.schedule.proofs.Counts.{cap_small, cap_full, lower_least}
@@ -45,7 +46,7 @@ pub lines_done : (s : List ℕ) (i p n : ℕ) → n ≡ line_number s i → i �
 lines_done s i p n h e = cc
 
 module _ (s : List ℕ) (t : List ℕ) where
-  abbrev Meets : Read → List ℕ → Type 0
+  abbrev Meets : Result ℕ Unread → List ℕ → Type 0
   Meets r u = (r ≡ answered (read_of s)) × (u ≡ filled (read_of s) t)
 
   told : (x : Reading) → read_of s ≡ x → Meets (answered x) (filled x t)
@@ -55,7 +56,7 @@ module _ (s : List ℕ) (t : List ℕ) where
   unfolding read_of when
   long h = rw (lt-ltb 16384 (length s) h)
 
-  pub read_long : 16384 < length s → Meets TooLong t
+  pub read_long : 16384 < length s → Meets (Err TooLong) t
   read_long h = told too_long (long h)
 
   module _ (w : length s ≤ 16384) (kd : Kind) (r : Bool) (p : kd ≡ kind_of s 0) (q : r ≡ is_make kd) where
@@ -63,7 +64,7 @@ module _ (s : List ℕ) (t : List ℕ) where
     unfolding read_of when
     first e = rw (le-ltb 16384 (length s) w, ← p, ← q, not-true r e)
 
-    pub read_first : not r ≡ true → Meets (BadLine 1) t
+    pub read_first : not r ≡ true → Meets (Err (BadLine 1)) t
     read_first e = told (bad_line 1) (first e)
 
     module _ (e : not r ≡ false) (n : ℕ) (v : n ≡ after_of s 0) where
@@ -85,7 +86,7 @@ module _ (s : List ℕ) (t : List ℕ) where
         unfolding when
         bad l = body ∙ rw (← lowest, lt-ltb f (length s) l)
 
-        pub read_bad : (m : ℕ) → f < length s → m ≡ line_number s f → Meets (BadLine m) t
+        pub read_bad : (m : ℕ) → f < length s → m ≡ line_number s f → Meets (Err (BadLine m)) t
         read_bad m l h = rw h (told (bad_line (line_number s f)) (bad l))
 
         module _ (l : length s ≤ f) where
@@ -96,7 +97,7 @@ module _ (s : List ℕ) (t : List ℕ) where
           unfolding when
           many h = body ∙ rw (← lowest, le-ltb f (length s) l, lt-ltb 100000 (suc (length (block_at s n 4).calls)) (large h))
 
-          pub read_many : 100000 ≤ g.calls → Meets TooLong t
+          pub read_many : 100000 ≤ g.calls → Meets (Err TooLong) t
           read_many h = told too_long (many h)
 
           module _ (h : g.calls < 100000) where
@@ -115,6 +116,6 @@ module _ (s : List ℕ) (t : List ℕ) where
             unfolding when
             all = body ∙ rw (← lowest, le-ltb f (length s) l, le-ltb 100000 (suc (length (block_at s n 4).calls)) (omega (arith, few)))
 
-            pub read_calls : (y : Put) (u : List ℕ) → y ≡ put (block_at s n 4) 1 → u ≡ write_at (set t 0 0) 1 (block_at s n 4).calls → Meets (Calls y.upto) u
+            pub read_calls : (y : Put) (u : List ℕ) → y ≡ put (block_at s n 4) 1 → u ≡ write_at (set t 0 0) 1 (block_at s n 4).calls → Meets (Ok y.upto) u
             read_calls y u c d =
-                rw (c, d, all) (ap Calls (omega arith), sym (write_cons t 0 0 (block_at s n 4).calls))
+                rw (c, d, all) (ap Ok (omega arith), sym (write_cons t 0 0 (block_at s n 4).calls))

@@ -1,5 +1,5 @@
 -- What a text is read as: too long, its lowest line at fault, or its calls, unrolled.
-use Rattle.std.specs.Prelude.{ℕ, ◌+◌, ◌≤◌, ◌≡◌, List, [], ◌∷◌, Bool, true, false, length, get_or, eqb, ltb}
+use Rattle.std.specs.Prelude.{ℕ, ◌+◌, ◌≤◌, ◌≡◌, List, [], ◌∷◌, Bool, true, false, length, get_or, eqb, ltb, Result, Ok, Err}
 use Rattle.basics.specs.Pick.{when}
 use Rattle.basics.specs.Below.{count_below}
 use Rattle.grammar.specs.Line.{after_of, kind_of}
@@ -7,8 +7,8 @@ use Rattle.grammar.specs.declared.Kind.{Kind}
 use Rattle.grammar.specs.declared.Kind.TheVariants.{Make, Call, Repeat, End, Wrong}
 use Rattle.tables.specs.Write.{write_at}
 use Rattle.schedule.specs.Text.{Block, lower, block_at}
-use Rattle.schedule.specs.declared.Read.{Read}
-use Rattle.schedule.specs.declared.Read.TheVariants.{TooLong, BadLine, Calls}
+use Rattle.schedule.specs.declared.Unread.{Unread}
+use Rattle.schedule.specs.declared.Unread.TheVariants.{TooLong, BadLine}
 
 -- each call is named by the place of its line
 pub data Reading : Type 0 where
@@ -60,10 +60,10 @@ pub record Faultless (s : List ℕ) (places : List ℕ) : Type 0 where
 -- ---- in the code
 
 -- what the code answers, and what it leaves in the table: the calls' places, or what was there
-abbrev pub answered : Reading → Read
-answered too_long = TooLong
-answered (bad_line n) = BadLine n
-answered (calls l) = Calls (length l)
+abbrev pub answered : Reading → Result ℕ Unread
+answered too_long = Err TooLong
+answered (bad_line n) = Err (BadLine n)
+answered (calls l) = Ok (length l)
 
 abbrev pub filled : Reading → List ℕ → List ℕ
 filled too_long t = t

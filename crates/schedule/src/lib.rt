@@ -201,12 +201,11 @@ fn put_line(s: &[u8], at: usize, depth: usize, t: &mut [u32], k: usize) -> Put
     }
 }
 
-// What a text is read as: too long, the number of its lowest line at fault, or the number of its calls.
-#[derive(Clone, Copy)]
-pub enum Read {
+// Why a text is not read as calls: it is too long, or the number of its lowest line at fault.
+#[derive(Clone, Copy, Debug, PartialEq, Eq)]
+pub enum Unread {
     TooLong,
     BadLine(usize),
-    Calls(usize),
 }
 
 fn is_make(k: Kind) -> bool
@@ -235,26 +234,26 @@ fn number_of(s: &[u8], p: usize) -> usize
     n
 }
 
-// The whole text. Where it is read as calls, the table holds the place of each call's line from 0 on; else it is unchanged.
-pub fn unroll(s: &[u8], t: &mut [u32; 100000]) -> Read
+// The number of calls of the whole text. Where it is read as calls, the table holds the place of each call's line from 0 on; else it is unchanged.
+pub fn unroll(s: &[u8], t: &mut [u32; 100000]) -> Result<usize, Unread>
     ensures { (result ≡ answered (read_of s.now)) × (t.new ≡ filled (read_of s.now) t.old) }
 {
     if 16384 < s.len() {
-        return Read::TooLong;
+        return Err(Unread::TooLong);
     }
     if !is_make(grammar::kind_at(s, 0)) {
-        return Read::BadLine(1);
+        return Err(Unread::BadLine(1));
     }
     let first = grammar::after(s, 0);
     let g = block(s, first, 4);
     let fault = lower_of(g.fault, g.next);
     if fault < s.len() {
-        return Read::BadLine(number_of(s, fault));
+        return Err(Unread::BadLine(number_of(s, fault)));
     }
     if 100000 <= g.calls {
-        return Read::TooLong;
+        return Err(Unread::TooLong);
     }
     t[0] = 0;
     let p = put_block(s, first, 4, t, 1);
-    Read::Calls(p.upto)
+    Ok(p.upto)
 }
