@@ -12,7 +12,7 @@ use Rattle.basics.proofs.Picks.{when_both}
 use Rattle.grammar.specs.Line.{after_of, kind_of}
 use Rattle.grammar.specs.declared.Kind.{Kind}
 use Rattle.grammar.specs.declared.Kind.TheVariants.{Make, Call, Repeat, End, Wrong}
-use Rattle.tables.specs.Write.{copies}
+use Rattle.std.specs.List.{repeat}
 use Rattle.tables.proofs.Laws.{write_length}
 use Rattle.schedule.specs.Text.{Block, is_end, line_with, block_of, block_at, lower}
 use Rattle.schedule.specs.declared.Unread.{Unread}
@@ -24,10 +24,10 @@ unfolding CallsAt
 calls_join s [] b p q = q
 calls_join s (at ∷ a) b p q = (p.0, p.1, calls_join s a b p.2 q)
 
-calls_copies : (s : List ℕ) (n : ℕ) (l : List ℕ) → CallsAt s l → CallsAt s (copies n l)
-unfolding CallsAt copies
-calls_copies s zero l p = tt
-calls_copies s (suc n) l p = calls_join s l (copies n l) p (calls_copies s n l p)
+calls_repeat : (s : List ℕ) (n : ℕ) (l : List ℕ) → CallsAt s l → CallsAt s (repeat n l)
+unfolding CallsAt
+calls_repeat s zero l p = tt
+calls_repeat s (suc n) l p = calls_join s l (repeat n l) p (calls_repeat s n l p)
 
 no_calls : (s : List ℕ) → CallsAt s []
 unfolding CallsAt
@@ -44,7 +44,7 @@ line_called : (s : List ℕ) (at d : ℕ) (k : Kind) (b : Block) → at ≤ leng
 line_called s at d Call b h e p = one_call s at h e
 line_called s at d (Repeat n) b h e p =
     when_both (Called s) (eqb d 0) _ _ (λ _. no_calls s)
-    (λ _. when_both (Called s) (ltb b.next (length s)) _ _ (λ _. calls_copies s n b.calls p) (λ _. no_calls s))
+    (λ _. when_both (Called s) (ltb b.next (length s)) _ _ (λ _. calls_repeat s n b.calls p) (λ _. no_calls s))
 line_called s at d Make b h e p = no_calls s
 line_called s at d End b h e p = no_calls s
 line_called s at d Wrong b h e p = no_calls s

@@ -14,11 +14,13 @@ use Rattle.grammar.specs.Line.{after_of, kind_of}
 use Rattle.grammar.specs.declared.Kind.{Kind}
 use Rattle.grammar.specs.declared.Kind.TheVariants.{Call, Repeat}
 use Rattle.grammar.specs.contracts.Kind as K
+use native.Mathlib.Nat.{mul-le-mul_right}
 use Rattle.grammar.proofs.Laws.{after_within}
 use Rattle.grammar.proofs.Lawful.{repeat_range}
-use Rattle.tables.specs.Write.{write_at, part_of, copies}
+use Rattle.std.specs.List.{repeat, slice_range}
+use Rattle.tables.specs.Write.{write_at}
 use Rattle.tables.proofs.Left.{Left, left_first_lem, left_room, left_on, left_done}
-use Rattle.tables.proofs.Laws.{write_one, write_append, write_length, part_written, copies_length, some_le}
+use Rattle.tables.proofs.Laws.{write_one, write_append, write_length, part_written, repeat_length}
 use Rattle.schedule.specs.declared.Put.{Put}
 use Rattle.schedule.specs.Text.{Block, Ready, and_then, is_end, too_deep, line_with, block_at, line_at, put}
 use Rattle.schedule.proofs.Counts.{lower_back}
@@ -104,7 +106,7 @@ module _ (s : List ℕ) (at d : ℕ) (t : List ℕ) (k : ℕ) (kd : Kind) (n : �
 
   module _ (m : ℕ) (e : kd ≡ Repeat m) where
     abbrev shut : Block
-    shut = record { next = after_of s (block_at s (after_of s at) (d - 1)).next; fault = (block_at s (after_of s at) (d - 1)).fault; calls = copies m (block_at s (after_of s at) (d - 1)).calls }
+    shut = record { next = after_of s (block_at s (after_of s at) (d - 1)).next; fault = (block_at s (after_of s at) (d - 1)).fault; calls = repeat m (block_at s (after_of s at) (d - 1)).calls }
 
     choice : (eqb d 0 ≡ false) × (ltb (block_at s (after_of s at) (d - 1)).next (length s) ≡ true)
     choice =
@@ -122,14 +124,14 @@ module _ (s : List ℕ) (at d : ℕ) (t : List ℕ) (k : ℕ) (kd : Kind) (n : �
     times = repeat_range s at m (sym p ∙ e)
 
     room : k + m * length (block_at s n (d - 1)).calls ≤ length t
-    room = rw q (omega (arith, ready.room, ap (λ (x : Block). length x.calls) as_shut, copies_length m (block_at s (after_of s at) (d - 1)).calls))
+    room = rw q (omega (arith, ready.room, ap (λ (x : Block). length x.calls) as_shut, repeat_length m (block_at s (after_of s at) (d - 1)).calls))
 
     pub inner_ready : Ready s (block_at s n (d - 1)) t k
     inner_ready =
         record {
           short = ready.short;
           sound = rw q (sym (ap (λ (x : Block). x.fault) as_shut) ∙ ready.sound);
-          room = omega (arith, some_le (length (block_at s n (d - 1)).calls) m times.0, room);
+          room = omega (arith, mul-le-mul_right {m = 1} {n = m} (length (block_at s n (d - 1)).calls) times.0, room);
         }
 
     pub start_in : n ≤ length s
@@ -149,17 +151,17 @@ module _ (s : List ℕ) (at d : ℕ) (t : List ℕ) (k : ℕ) (kd : Kind) (n : �
       pub part_ready : (1 ≤ m) × (k + m * (y.upto - k) ≤ length u)
       part_ready = (times.0, rw (once, w, write_length t k (block_at s n (d - 1)).calls) room)
 
-      whole : copies m (block_at s n (d - 1)).calls ≡ (block_at s n (d - 1)).calls ++ copies (m - 1) (block_at s n (d - 1)).calls
-      unfolding copies
-      whole = let z : m ≡ suc (m - 1) = omega (arith, times) in ap (λ (x : ℕ). copies x (block_at s n (d - 1)).calls) z
+      whole : repeat m (block_at s n (d - 1)).calls ≡ (block_at s n (d - 1)).calls ++ repeat (m - 1) (block_at s n (d - 1)).calls
+      whole = let z : m ≡ suc (m - 1) = omega (arith, times) in ap (λ (x : ℕ). repeat x (block_at s n (d - 1)).calls) z
 
-      pub put_repeat : (j v : ℕ) (x : List ℕ) → j ≡ after_of s y.next → v ≡ k + m * (y.upto - k) → x ≡ write_at u (k + (y.upto - k)) (copies (m - 1) (part_of u k (y.upto - k)))
+      pub put_repeat : (j v : ℕ) (x : List ℕ) → j ≡ after_of s y.next → v ≡ k + m * (y.upto - k) → x ≡ write_at u (k + (y.upto - k)) (repeat (m - 1) (slice_range u k (k + (y.upto - k))))
           → (◌≡◌ {A = Put} (record { next = j; upto = v }) (put (line_at s at d) k)) × (x ≡ write_at t k (line_at s at d).calls)
       put_repeat j v x f g h =
           let c = (block_at s n (d - 1)).calls in
-          let kept : part_of u k (length c) ≡ c = rw w (part_written t k c (omega (arith, inner_ready.room))) in
-          let same : line_at s at d ≡ record { next = after_of s (block_at s n (d - 1)).next; fault = (block_at s n (d - 1)).fault; calls = copies m (block_at s n (d - 1)).calls } = rw q as_shut in
+          let cut : k + length c - k ≡ length c = omega arith in
+          let kept : slice_range u k (k + length c) ≡ c = rw (w, cut) (part_written t k c (omega (arith, inner_ready.room))) in
+          let same : line_at s at d ≡ record { next = after_of s (block_at s n (d - 1)).next; fault = (block_at s n (d - 1)).fault; calls = repeat m (block_at s n (d - 1)).calls } = rw q as_shut in
           rw same (
-            same_put (f ∙ ap (λ (z : Put). after_of s z.next) a) (g ∙ (ap (λ (z : ℕ). k + m * z) once ∙ ap (λ (z : ℕ). k + z) (sym (copies_length m c)))),
-            h ∙ (rw (once, kept, w, whole) (sym (write_append t k c (copies (m - 1) c)))),
+            same_put (f ∙ ap (λ (z : Put). after_of s z.next) a) (g ∙ (ap (λ (z : ℕ). k + m * z) once ∙ ap (λ (z : ℕ). k + z) (sym (repeat_length m c)))),
+            h ∙ (rw (once, kept, w, whole) (sym (write_append t k c (repeat (m - 1) c)))),
           )

@@ -16,7 +16,7 @@ use Rattle.grammar.specs.declared.Kind.TheVariants.{Make, Call, Repeat, End, Wro
 use Rattle.grammar.specs.contracts.Kind as K
 use Rattle.grammar.proofs.Laws.{after_within}
 use Rattle.grammar.proofs.Lawful.{repeat_range}
-use Rattle.tables.proofs.Laws.{copies_length}
+use Rattle.tables.proofs.Laws.{repeat_length}
 use Rattle.schedule.specs.declared.Got.{Got}
 use Rattle.schedule.specs.Text.{Block, lower, is_end, end_of, single, line_with, block_at, line_at, cap, tell}
 use Rattle.schedule.proofs.Counts.{lower_first, lower_second, lower_within, lower_assoc, cap_small, cap_le, cap_left, cap_right, cap_times}
@@ -107,7 +107,7 @@ module _ (s : List ℕ) (at d : ℕ) (k : Kind) (n : ℕ) (p : k ≡ kind_of s a
     said_closed j c l v w =
         rw (← p, r, ne_eqb d 0 z, lt-ltb inner.next (length s) (subst (λ (x : Got). x.next < length s) at_inner l))
         (same_got (v ∙ ap (λ (x : Got). after_of s x.next) at_inner) (ap (λ (x : Got). x.fault) at_inner)
-        (w ∙ (ap (λ (x : Got). cap (m * x.calls)) at_inner ∙ (cap_times m (length inner.calls) ∙ ap cap (sym (copies_length m inner.calls))))))
+        (w ∙ (ap (λ (x : Got). cap (m * x.calls)) at_inner ∙ (cap_times m (length inner.calls) ∙ ap cap (sym (repeat_length m inner.calls))))))
 
     pub said_open : length s ≤ g.next → ◌≡◌ {A = Got} (record { next = g.next; fault = at; calls = 0 }) (tell (line_at s at d))
     unfolding line_at when

@@ -1,11 +1,11 @@
 -- What a text of nested blocks is read as: where a block ends, the lowest of its lines at fault, and its calls, unrolled.
 -- A line is named by the place of its first byte.
 use Rattle.std.specs.Prelude.{ℕ, zero, suc, ◌+◌, ◌-◌, ◌≤◌, ◌≡◌, List, [], ◌∷◌, ◌++◌, Bool, true, false, ◌&&◌, length, eqb, leb, ltb}
+use Rattle.std.specs.List.{repeat}
 use Rattle.basics.specs.Pick.{when}
 use Rattle.grammar.specs.Line.{after_of, kind_of}
 use Rattle.grammar.specs.declared.Kind.{Kind}
 use Rattle.grammar.specs.declared.Kind.TheVariants.{Make, Call, Repeat, End, Wrong}
-use Rattle.tables.specs.Write.{copies}
 use Rattle.schedule.specs.declared.Got.{Got}
 use Rattle.schedule.specs.declared.Put.{Put}
 
@@ -55,7 +55,7 @@ single s at fault calls = record { next = after_of s at; fault = fault; calls = 
 abbrev pub closed : List ℕ → ℕ → ℕ → Block → Block
 closed s at n b =
     when (ltb b.next (length s))
-    (record { next = after_of s b.next; fault = b.fault; calls = copies n b.calls })
+    (record { next = after_of s b.next; fault = b.fault; calls = repeat n b.calls })
     (record { next = b.next; fault = at; calls = [] })
 
 -- a block opened too deep is at fault, and is passed over
