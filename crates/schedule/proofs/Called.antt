@@ -3,21 +3,21 @@ use Prim.Native.Nat.{ℕ, zero, suc, ◌-◌, ◌≤◌}
 use native.Mathlib.Omega.{arith}
 use mathlib.Core.Path.{◌≡◌, refl, ap, sym, subst}
 use mathlib.Core.List.{List, [], ◌∷◌, ◌++◌}
-use mathlib.Core.Bool.{true, false≢true}
+use mathlib.Core.Bool.{true}
 use lib.ListN.{length}
 use lib.Dec.{eqb, leb, ltb}
 use borrow.Author.Tests.{leb-false, ltb-false}
-use Rattle.std.specs.Prelude.{Result, Ok, Err}
+use Rattle.std.specs.Prelude.{Option, Some, None, Result, Ok, Err}
 use Rattle.basics.proofs.Picks.{when_both}
 use Rattle.grammar.specs.Line.{after_of, kind_of}
 use Rattle.grammar.specs.declared.Kind.{Kind}
-use Rattle.grammar.specs.declared.Kind.TheVariants.{Make, Call, Repeat, End, Wrong}
+use Rattle.grammar.specs.declared.Kind.TheVariants.{Make, Call, Repeat, End}
 use Rattle.std.specs.List.{repeat}
 use Rattle.tables.proofs.Laws.{write_length}
 use Rattle.schedule.specs.Text.{Block, is_end, line_with, block_of, block_at, lower}
 use Rattle.schedule.specs.declared.Unread.{Unread}
 use Rattle.schedule.specs.declared.Unread.TheVariants.{TooLong, BadLine}
-use Rattle.schedule.specs.Read.{Reading, too_long, bad_line, calls, is_make, limited, judged, read_of, answered, filled, CallsAt, Faultless}
+use Rattle.schedule.specs.Read.{Reading, too_long, bad_line, calls, is_make, limited, judged_by, stray_end, judged, read_of, answered, filled, CallsAt, Faultless}
 
 calls_join : (s a b : List ℕ) → CallsAt s a → CallsAt s b → CallsAt s (a ++ b)
 unfolding CallsAt
@@ -33,21 +33,21 @@ no_calls : (s : List ℕ) → CallsAt s []
 unfolding CallsAt
 no_calls s = tt
 
-one_call : (s : List ℕ) (at : ℕ) → at ≤ length s → kind_of s at ≡ Call → CallsAt s (at ∷ [])
+one_call : (s : List ℕ) (at : ℕ) → at ≤ length s → kind_of s at ≡ Some Call → CallsAt s (at ∷ [])
 unfolding CallsAt
 one_call s at h e = (h, e, tt)
 
 abbrev Called : List ℕ → Block → Type 0
 Called s b = CallsAt s b.calls
 
-line_called : (s : List ℕ) (at d : ℕ) (k : Kind) (b : Block) → at ≤ length s → kind_of s at ≡ k → Called s b → Called s (line_with k b s at d)
-line_called s at d Call b h e p = one_call s at h e
-line_called s at d (Repeat n) b h e p =
+line_called : (s : List ℕ) (at d : ℕ) (k : Option Kind) (b : Block) → at ≤ length s → kind_of s at ≡ k → Called s b → Called s (line_with k b s at d)
+line_called s at d (Some Call) b h e p = one_call s at h e
+line_called s at d (Some (Repeat n)) b h e p =
     when_both (Called s) (eqb d 0) _ _ (λ _. no_calls s)
     (λ _. when_both (Called s) (ltb b.next (length s)) _ _ (λ _. calls_repeat s n b.calls p) (λ _. no_calls s))
-line_called s at d Make b h e p = no_calls s
-line_called s at d End b h e p = no_calls s
-line_called s at d Wrong b h e p = no_calls s
+line_called s at d (Some Make) b h e p = no_calls s
+line_called s at d (Some End) b h e p = no_calls s
+line_called s at d None b h e p = no_calls s
 
 block_called : (k : ℕ) (s : List ℕ) (at d : ℕ) → Called s (block_of k s at d)
 unfolding block_of
@@ -60,25 +60,29 @@ block_called (suc k) s at d =
     (line_called s at d (kind_of s at) (block_of k s (after_of s at) (d - 1)) (omega (arith, leb-false (length s) at e)) refl (block_called k s (after_of s at) (d - 1)))
     (block_called k s line.next d)))
 
-is_make_lem : (k : Kind) → is_make k ≡ true → k ≡ Make
-is_make_lem Make e = refl
-is_make_lem Call e = absurd (false≢true e)
-is_make_lem (Repeat n) e = absurd (false≢true e)
-is_make_lem End e = absurd (false≢true e)
-is_make_lem Wrong e = absurd (false≢true e)
+is_make_lem : (k : Option Kind) → is_make k ≡ true → k ≡ Some Make
+is_make_lem None e = cc
+is_make_lem (Some Make) e = refl
+is_make_lem (Some Call) e = cc
+is_make_lem (Some (Repeat n)) e = cc
+is_make_lem (Some End) e = cc
 
 abbrev Reads : List ℕ → Reading → Type 0
 Reads s too_long = Unit {0}
 Reads s (bad_line n) = Unit {0}
 Reads s (calls places) = Faultless s places
 
-limits : (s : List ℕ) (b : Block) → length s ≤ 16384 → kind_of s 0 ≡ Make → Called s b → Reads s (limited (0 ∷ b.calls))
+limits : (s : List ℕ) (b : Block) → length s ≤ 16384 → kind_of s 0 ≡ Some Make → Called s b → Reads s (limited (0 ∷ b.calls))
 limits s b short make p =
     when_both (Reads s) (ltb 100000 (suc (length b.calls))) too_long (calls (0 ∷ b.calls)) (λ _. tt)
     (λ few. record { short = short; making = make; rest = b.calls; first = refl; others = p; few = ltb-false 100000 (suc (length b.calls)) few })
 
-judges : (s : List ℕ) (b : Block) → length s ≤ 16384 → kind_of s 0 ≡ Make → Called s b → Reads s (judged s b)
-judges s b short make p = when_both (Reads s) (ltb (lower b.fault b.next) (length s)) _ (limited (0 ∷ b.calls)) (λ _. tt) (λ _. limits s b short make p)
+judges : (s : List ℕ) (b : Block) → length s ≤ 16384 → kind_of s 0 ≡ Some Make → Called s b → Reads s (judged s b)
+judges s b short make p = by (lower b.fault (stray_end s b))
+  where
+    by : (o : Option ℕ) → Reads s (judged_by o s (0 ∷ b.calls))
+    by None = limits s b short make p
+    by (Some f) = tt
 
 at_called : (s : List ℕ) (at d : ℕ) → Called s (block_at s at d)
 unfolding block_at
