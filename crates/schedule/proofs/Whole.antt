@@ -1,6 +1,7 @@
 -- What the whole text is read as, in the words of the calls' answers. Assumes nothing.
-use Rattle.std.proofs.Common.{◌≡◌, ℕ, suc, ◌≤◌, ◌<◌, List, length, set, Bool, true, false, not, ltb, Option, Some, None, Ok, Err, refl, ap, sym, ◌∙◌, subst, arith}
-use Rattle.std.proofs.lemmas.List.{length-set}
+use Rattle.std.proofs.Common.{◌≡◌, ◌-◌, ◌+◌, ℕ, suc, ◌≤◌, ◌<◌, List, length, set, Bool, true, false, not, ltb, Option, Some, None, Ok, Err, refl, ap, sym, ◌∙◌, subst, arith, length-drop}
+use Rattle.std.proofs.lemmas.List.{length-set, take_rest}
+use borrow.Rule.Slice.PartMut.{mid_of, put_mid}
 use Rattle.std.specs.Bool.{then_some}
 use Rattle.std.specs.Option.{option_or}
 use borrow.Author.Tests.{lt-ltb, le-ltb, ltb-true, not-true, not-false}
@@ -9,7 +10,7 @@ use Rattle.grammar.specs.Line.{after_of, kind_of}
 use Rattle.grammar.specs.declared.Kind.{Kind}
 use Rattle.grammar.proofs.Laws.{after_within}
 use Rattle.tables.specs.Write.{write_at}
-use Rattle.tables.proofs.Laws.{write_cons}
+use Rattle.tables.proofs.Laws.{write_cons, write_rest}
 use Rattle.schedule.specs.declared.Got.{Got}
 use Rattle.schedule.specs.declared.Put.{Put}
 use Rattle.schedule.specs.declared.Unread.{Unread}
@@ -93,8 +94,22 @@ module _ (s t : List ℕ) (n : ℕ) (k : Playable s n) where
   pub start_in : n ≤ length s
   start_in = rw k.start (after_within s 0 (omega arith))
 
-  pub write_ready : 100000 ≤ length t → Ready s (block_at s n 4) (set t 0 0) 1
-  write_ready o = record { short = k.short; sound = k.sound; room = omega (arith, k.few, length-set t 0 0) }
+  -- m entries of the table t follow the first, which is written
+  module _ (m : ℕ) (e : length t ≡ m + 1) where
+    others : m ≡ length (set t 0 0) - 1
+    others = omega (arith, e, length-set t 0 0)
 
-  pub written : (y : Put) (u : List ℕ) → y ≡ put (block_at s n 4) 1 → u ≡ write_at (set t 0 0) 1 (block_at s n 4).calls → (Ok y.upto ≡ answered (read_of s)) × (u ≡ filled (read_of s) t)
-  written y u c d = rw (c, d, k.read) (ap Ok (omega arith), sym (write_cons t 0 0 (block_at s n 4).calls))
+    pub write_ready : 99999 ≤ m → Ready s (block_at s n 4) (mid_of 1 m (set t 0 0))
+    write_ready h =
+        record {
+          short = k.short;
+          sound = k.sound;
+          room = rw (others, take_rest (set t 0 0) 1) (omega (arith, k.few, length-drop 1 (set t 0 0), length-set t 0 0));
+        }
+
+    pub written : (y : Put) (u : List ℕ) → 99999 ≤ m → y ≡ put (block_at s n 4) → u ≡ write_at (mid_of 1 m (set t 0 0)) 0 (block_at s n 4).calls
+        → (Ok (1 + y.written) ≡ answered (read_of s)) × (put_mid 1 m (set t 0 0) u ≡ filled (read_of s) t)
+    written y u h c d =
+        let calls = (block_at s n 4).calls in
+        let all : put_mid 1 m (set t 0 0) u ≡ write_at (set t 0 0) 1 calls = rw others (write_rest (set t 0 0) u 1 calls (omega (arith, k.few, e, length-set t 0 0)) (rw others at d)) in
+        rw (c, k.read) (ap Ok (omega arith), all ∙ sym (write_cons t 0 0 calls))

@@ -95,12 +95,12 @@ line_at s at depth = line_with (kind_of s at) (block_at s (after_of s at) (depth
 abbrev pub tell : Block → Got
 tell b = record { next = b.next; fault = b.fault; calls = min (length b.calls) 100001 }
 
--- the second pass: lines at no fault, with room for their calls from place k on
-pub record Ready (s : List ℕ) (b : Block) (t : List ℕ) (k : ℕ) : Type 0 where
+-- the second pass: lines at no fault, with room for their calls
+pub record Ready (s : List ℕ) (b : Block) (t : List ℕ) : Type 0 where
   pub short : length s ≤ 16384
   pub sound : b.fault ≡ None
-  pub room : k + length b.calls ≤ length t
+  pub room : length b.calls ≤ length t
 
--- where it ends, in the text and in the table
-abbrev pub put : Block → ℕ → Put
-put b k = record { next = b.next; upto = k + length b.calls }
+-- where it ends in the text, and how many calls it writes
+abbrev pub put : Block → Put
+put b = record { next = b.next; written = length b.calls }

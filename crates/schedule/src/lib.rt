@@ -136,49 +136,56 @@ fn line(s: &[u8], at: usize, depth: usize) -> Got
     }
 }
 
-// Where the second pass is after some lines: where the next one starts, and the first place of the table that is still free.
+// Where the second pass is after some lines: where the next one starts, and how many calls were written.
 #[derive(Clone, Copy, Debug, PartialEq, Eq)]
 pub struct Put {
     pub next: usize,
-    pub upto: usize,
+    pub written: usize,
 }
 
-// The calls of the lines from `at` up to an `end` or the text's end are written into the table from place k on.
+// The calls of the lines from `at` up to an `end` or the text's end are written at the start of the table.
 #[cycle(put_block_put_line)]
-fn put_block(s: &[u8], at: usize, depth: usize, t: &mut [u32], k: usize) -> Put
-    requires { (at ≤ length s.now) × Ready s.now (block_at s.now at depth) t.old k }
-    ensures { (result ≡ put (block_at s.now at depth) k) × (t.new ≡ write_at t.old k (block_at s.now at depth).calls) }
+fn put_block(s: &[u8], at: usize, depth: usize, t: &mut [u32]) -> Put
+    requires { (at ≤ length s.now) × Ready s.now (block_at s.now at depth) t.old }
+    ensures { (result ≡ put (block_at s.now at depth)) × (t.new ≡ write_at t.old 0 (block_at s.now at depth).calls) }
 {
-    let mut p = Put { next: at, upto: k };
+    let mut p = Put {
+        next: at,
+        written: 0,
+    };
     while has_line(s, p.next) {
-        p = put_line(s, p.next, depth, t, p.upto);
+        let more = put_line(s, p.next, depth, &mut t[p.written..]);
+        p = Put {
+            next: more.next,
+            written: p.written + more.written,
+        };
     }
     p
 }
 
 // The same of one line: a block that it opens is written once, and then copied.
 #[cycle(put_block_put_line)]
-fn put_line(s: &[u8], at: usize, depth: usize, t: &mut [u32], k: usize) -> Put
-    requires { (at < length s.now) × Ready s.now (line_at s.now at depth) t.old k }
-    ensures { (result ≡ put (line_at s.now at depth) k) × (t.new ≡ write_at t.old k (line_at s.now at depth).calls) }
+fn put_line(s: &[u8], at: usize, depth: usize, t: &mut [u32]) -> Put
+    requires { (at < length s.now) × Ready s.now (line_at s.now at depth) t.old }
+    ensures { (result ≡ put (line_at s.now at depth)) × (t.new ≡ write_at t.old 0 (line_at s.now at depth).calls) }
 {
     let next = grammar::after(s, at);
     let Some(kind) = grammar::kind_at(s, at) else {
-        return Put { next, upto: k };
+        return Put { next, written: 0 };
     };
     match kind {
         Kind::Call => {
-            t[k] = at as u32;
-            Put { next, upto: k + 1 }
+            t[0] = at as u32;
+            Put { next, written: 1 }
         }
         Kind::Repeat(n) => {
-            let p = put_block(s, next, depth - 1, t, k);
+            let p = put_block(s, next, depth - 1, t);
             Put {
                 next: grammar::after(s, p.next),
-                upto: tables::repeat_part(t, k, p.upto - k, n),
+                written: tables::repeat_part(t, 0, p.written, n),
             }
         }
-        _ => Put { next, upto: k },
+        _ => Put { next, written: 0 },
     }
 }
 
@@ -226,6 +233,6 @@ pub fn unroll(s: &[u8], t: &mut [u32; 100000]) -> Result<usize, Unread>
 {
     let second = second_line(s)?;
     t[0] = 0;
-    let p = put_block(s, second, 4, t, 1);
-    Ok(p.upto)
+    let p = put_block(s, second, 4, &mut t[1..]);
+    Ok(1 + p.written)
 }

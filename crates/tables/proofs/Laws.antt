@@ -1,9 +1,10 @@
 -- Laws of a list written into a table, of a table's parts, and of a list repeated. Assumes nothing.
 use Rattle.std.proofs.Common.{◌≡◌, ℕ, zero, suc, ◌+◌, ◌*◌, ◌-◌, ◌≤◌, ◌<◌, List, [], ◌∷◌, ◌++◌, length, set, take, drop, refl, ap, sym, ◌∙◌, arith, add-one, length-append, length-drop, append_assoc}
-use Rattle.std.proofs.lemmas.List.{append-nil, length-take-le, take-set-le, take_at, drop_at, drop-take, set_past}
+use Rattle.std.proofs.lemmas.List.{append-nil, length-take-le, take-set-le, take_at, drop_at, drop-take, drop-drop, drop_all, take_rest, set_past}
 use Rattle.std.proofs.lemmas.List.Edits.{sets, sets-eq}
 use Rattle.std.proofs.Math.Seq.{length-sets}
 use Rattle.std.specs.List.{repeat, slice_range, copy_within}
+use borrow.Rule.Slice.PartMut.{put_mid}
 use native.Mathlib.Nat.{zero-mul, suc-mul, mul-zero, mul-le-mul_right}
 use Rattle.tables.specs.Write.{write_at}
 
@@ -39,6 +40,14 @@ write_parts t k l h = write_sets t k l ∙ (sets-eq l t k h ∙ append_assoc (ta
 
 pub write_front : (t l : List ℕ) → length l ≤ length t → write_at t 0 l ≡ l ++ drop (length l) t
 write_front t l h = let e : 0 + length l ≡ length l = omega arith in write_parts t 0 l (omega arith) ∙ rw e
+
+-- written at the start of `t[k..]`
+pub write_rest : (t u : List ℕ) (k : ℕ) (l : List ℕ) → k + length l ≤ length t → u ≡ write_at (take (length t - k) (drop k t)) 0 l → put_mid k (length t - k) t u ≡ write_at t k l
+write_rest t u k l h e =
+    let room : length l ≤ length (drop k t) = simp length-drop (omega arith) in
+    let written : u ≡ l ++ drop (k + length l) t = rw take_rest at e ∙ (write_front (drop k t) l room ∙ ap (λ (r : List ℕ). l ++ r) (drop-drop (length l) k t)) in
+    let past : drop (length t - k) (drop k t) ≡ [] = drop_all (length t - k) (drop k t) (simp length-drop (omega arith)) in
+    rw (past, append-nil u, written) (sym (write_parts t k l h))
 
 pub write_beyond : (t : List ℕ) (k : ℕ) (l : List ℕ) → length t ≤ k → write_at t k l ≡ t
 unfolding write_at
