@@ -1,5 +1,5 @@
 -- `second_line` meets its contract: which text is played, by what its calls ensure.
-use Rattle.std.proofs.Common.{ap, ◌∙◌, rules}
+use Rattle.std.proofs.Common.{ap, ◌∙◌, rules, arith}
 use Rattle.std.specs.Option.{option_or}
 use Rattle.schedule.proofs.Whole.{read_long, read_first, start_within, fault_within, read_bad, read_many, playable}
 use Rattle.schedule.proofs.second_line.Goals as goal
@@ -26,9 +26,9 @@ returns-in-Some c =
 pub returns-then-got-ge100000 : goal.returns-then-got-ge100000
 returns-then-got-ge100000 c =
     read_many _ c.if-s-gt16384.false _ c.ne.result c.kind_at.ensures (search rules) c.if-ne.false _ c.after-second.ensures
-    c.block-got.result c.or.result c.block-got.ensures (c.or.ensures ∙ ap (option_or c.block-got.result.fault) c.then_some-stray_end.ensures) c.in_default.is c.if-got-ge100000.true
+    c.block-got.result c.or.result c.block-got.ensures (c.or.ensures ∙ ap (option_or c.block-got.result.fault) c.then_some-stray_end.ensures) c.in_default.is (omega arith)
 
 pub returns : goal.returns
 returns c =
     playable _ c.if-s-gt16384.false _ c.ne.result c.kind_at.ensures (search rules) c.if-ne.false _ c.after-second.ensures
-    c.block-got.result c.or.result c.block-got.ensures (c.or.ensures ∙ ap (option_or c.block-got.result.fault) c.then_some-stray_end.ensures) c.in_default.is c.if-got-ge100000.false
+    c.block-got.result c.or.result c.block-got.ensures (c.or.ensures ∙ ap (option_or c.block-got.result.fault) c.then_some-stray_end.ensures) c.in_default.is (omega arith)
