@@ -12,7 +12,7 @@ use Rattle.grammar.specs.declared.Kind.TheVariants.{Call, Repeat}
 use Rattle.grammar.proofs.Laws.{after_within}
 use Rattle.grammar.proofs.Lawful.{repeat_range}
 use Rattle.tables.specs.Write.{write_at}
-use Rattle.tables.proofs.Left.{Left, left_first_lem, left_room, left_on, left_done}
+use Rattle.tables.proofs.Left.{Left, left_room, left_on, left_done}
 use Rattle.tables.proofs.Laws.{write_one, write_append, write_length, write_rest, part_written, repeat_length}
 use Rattle.schedule.specs.declared.Put.{Put}
 use Rattle.schedule.specs.Text.{Block, Ready, lower, and_then, too_deep, line_with, has_line, block_at, line_at, put}
@@ -27,9 +27,6 @@ pub record Going (s : List ℕ) (whole rest : Block) (t₀ t : List ℕ) (n : �
 
 same_put : {n u n' u' : ℕ} → n ≡ n' → u ≡ u' → ◌≡◌ {A = Put} (record { next = n; written = u }) (record { next = n'; written = u' })
 same_put p q = λ i. record { next = p i; written = q i }
-
-pub going_first : (s : List ℕ) (b : Block) (t : List ℕ) → Ready s b t → Going s b b t t 0
-going_first s b t r = record { sound = r.sound; ends = refl; left = left_first_lem t 0 b.calls }
 
 pub no_fault : (f g : Option ℕ) → lower f g ≡ None → (f ≡ None) × (g ≡ None)
 no_fault None g h = (refl, h)

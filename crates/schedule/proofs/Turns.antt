@@ -34,9 +34,6 @@ stopped_times (suc m) a =
     (λ l. let z : min a 100001 ≡ 100001 = omega arith in rw z (omega (arith, suc-mul m 100001, suc-mul m a)))
 
 module _ (s : List ℕ) (d : ℕ) where
-  pub turn_first : (i : ℕ) → joined (record { next = i; fault = None; calls = 0 }) (tell (block_at s i d)) ≡ tell (block_at s i d)
-  turn_first i = same_got refl refl (omega arith)
-
   pub turn_end : (f b : Got) → has_line s f.next ≡ false → f.calls ≤ 100001 → joined f (tell (block_at s f.next d)) ≡ b → f ≡ b
   turn_end f b e w h = same_got refl (none f.fault) (omega arith) ∙ (ap (λ (x : Block). joined f (tell x)) (sym (block_stops s f.next d e)) ∙ h)
     where
