@@ -78,7 +78,7 @@ fn stop(s: &[u8], at: usize) -> usize
 }
 
 // Where the next line starts.
-// Kept: a text and a place, and no slice of what is left. The definitions (`line_of`, `kind_of`) and the callers' contracts name a line by its place in the text.
+// Kept: a text and a place, and no slice of what is left: the definitions (`line_of`, `kind_of`) and the callers' contracts name a line by its place.
 #[tactic(auto, using(basics::proofs::Picks::picks), unfolding(crate::specs::Line::after_of))]
 pub fn after(s: &[u8], at: usize) -> usize
     requires { at ≤ length s.now }
