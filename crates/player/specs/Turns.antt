@@ -1,6 +1,7 @@
 -- What a line does, and what is printed of it.
-use Rattle.std.specs.Prelude.{ℕ, List, [], length, drop, replicate, ltb}
+use Rattle.std.specs.Prelude.{◌≡◌, ℕ, ◌≤◌, List, [], length, drop, replicate, ltb}
 use Rattle.basics.specs.Pick.{when}
+use Rattle.tables.specs.Write.{write_at}
 use Rattle.pool.specs.declared.Pool.{Pool}
 use Rattle.pool.specs.Answers.{Told}
 use Rattle.pool.specs.Make.{make_of}
@@ -58,3 +59,9 @@ turn_at s at k p =
 
 abbrev pub turned : Played → Turn
 turned t = record { pool = t.pool; written = length t.bytes }
+
+-- r is what was played, its bytes stand at the start of u, which was t, and they are no more than a line's
+pub record Shows (x : Played) (r : Turn) (t u : List ℕ) : Type 0 where
+  pub value : r ≡ turned x
+  pub out_after : u ≡ write_at t 0 x.bytes
+  pub written_bound : r.written ≤ 8192
