@@ -22,6 +22,7 @@ pub struct Turn {
 }
 
 // What a call came to, printed with the list that it was lent.
+#[inline(always)]
 fn tell(done: Outcome, list: &[u32], number: usize, out: &mut [u8]) -> Turn
     requires { (5500 ≤ length out.old) × (length list.now ≤ 256) }
     ensures { Shows (says number (told done) list.now) result out.old out.new }
