@@ -7,11 +7,10 @@ use mathlib.Core.Bool.{true}
 use lib.ListN.{length, get_or}
 use borrow.Author.Tests.{ne_eqb, le-leb}
 use Rattle.std.specs.Fmt.{decimal as std_decimal}
-use Rattle.std.proofs.Common.{rules}
+use Rattle.std.proofs.Common.{Some, rules}
 use Rattle.std.proofs.lemmas.Fmt.{decimal_digit, decimal_nonempty, first_decimal, digits_decimal, digits_value-decimal}
 use Rattle.std.proofs.lemmas.Str.Parse.{IsNumeralModel, numerals_by_fold}
 use Rattle.basics.specs.Pick.{when}
-use Rattle.grammar.specs.declared.numbers.Number.TheVariants.{Value}
 use Rattle.grammar.specs.Words.{digits, value, unpadded, number_of}
 use Rattle.printed.specs.Printed.{decimal}
 use Rattle.printed.proofs.Laws.{decimal_is}
@@ -31,7 +30,7 @@ lone : (n : ℕ) → n < 2 ^ 64 → get_or (std_decimal n) 0 0 ≡ 48 → length
 lone zero h e = rw (decimal_digit 0 (omega arith))
 lone (suc n) h e = absurd (omega (arith, e, first_decimal (suc n) (omega arith) h))
 
-pub read_back : (n : ℕ) → n ≤ 4294967295 → number_of (decimal n) ≡ Value n
+pub read_back : (n : ℕ) → n ≤ 4294967295 → number_of (decimal n) ≡ Some n
 unfolding number_of when
 read_back n h =
     let b : n < 2 ^ 64 = omega arith in

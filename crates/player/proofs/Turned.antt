@@ -7,6 +7,7 @@ use mathlib.Core.List.{List, [], ◌∷◌}
 use lib.ListN.{length, take, drop, replicate, length-replicate}
 use lib.Seq.{take-append_seam}
 use borrow.Author.Tests.{lt-ltb, le-ltb}
+use Rattle.std.proofs.Common.{Option}
 use Rattle.basics.specs.Pick.{when}
 use Rattle.tables.specs.Write.{write_at}
 use Rattle.tables.proofs.Laws.{write_none, write_length, write_front}
@@ -44,7 +45,7 @@ module _ (s : List ℕ) (at k : ℕ) (p : Pool) where
   outside_shows t (inl h) = still t (rw (lt-ltb 16384 (length s) h))
   outside_shows t (inr h) = still t (rw (le-ltb 16384 (length s) h.0, lt-ltb (length s) at h.1))
 
-  module _ (short : length s ≤ 16384) (near : at ≤ length s) (l m : Line) (e : l ≡ line_of s at) (g : l ≡ m) where
+  module _ (short : length s ≤ 16384) (near : at ≤ length s) (l m : Option Line) (e : l ≡ line_of s at) (g : l ≡ m) where
     at_deed : (d : Deed) → deed_of m (numbers_at s at) ≡ d → turn_at s at k p ≡ turn_of d k p
     unfolding turn_at deed_at when
     at_deed d f = rw (le-ltb 16384 (length s) short, le-ltb (length s) at near, ← e, g, f)

@@ -62,7 +62,10 @@ pub fn play_line(text: &[u8], place: usize, number: usize, pool: Pool, out: &mut
     if 16384 < text.len() || text.len() < place {
         return Turn { pool, written: 0 };
     }
-    match grammar::line_at(text, place) {
+    let Some(line) = grammar::line_at(text, place) else {
+        return Turn { pool, written: 0 };
+    };
+    match line {
         Line::Make(w, g, b) => tell(Pool::make(w, g, b), &[], number, out),
         Line::Take(b) => tell(pool.take(BufferId(b)), &[], number, out),
         Line::Hire(w) => tell(pool.hire(WorkerNo(w)), &[], number, out),
@@ -74,7 +77,7 @@ pub fn play_line(text: &[u8], place: usize, number: usize, pool: Pool, out: &mut
         Line::Give(w) => give(text, place, pool, w, number, out),
         Line::Ask(w, b) => tell(pool.ask(WorkerNo(w), BufferId(b)), &[], number, out),
         Line::Step(w) => step(pool, w, number, out),
-        Line::Repeat(_) | Line::End | Line::Wrong => Turn { pool, written: 0 },
+        Line::Repeat(_) | Line::End => Turn { pool, written: 0 },
     }
 }
 
