@@ -21,7 +21,7 @@ pub struct Turn {
     pub written: usize,
 }
 
-// What a call came to, printed with the list that it was lent.
+// What a call came to, printed with the list that it was lent. Put in its callers, so that no record is copied for it.
 #[inline(always)]
 fn tell(done: Outcome, list: &[u32], number: usize, out: &mut [u8]) -> Turn
     requires { (5500 ≤ length out.old) × (length list.now ≤ 256) }
