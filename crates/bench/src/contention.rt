@@ -15,10 +15,10 @@ struct Run {
 
 // Each guard i is posted on the buffer that comes i after the first `before`, which is in service.
 fn post(run: &mut Run, before: u8) {
-    for i in 0..32usize {
+    for (i, posted) in run.pool.posted.iter_mut().enumerate() {
         let at = (usize::from(before) + i) % 256;
         run.pool.states[at] = 1;
-        run.pool.posted[i] = (at + 1) as u32;
+        *posted = at as u32 + 1;
     }
 }
 

@@ -11,6 +11,7 @@ ghost use Rattle.printed.specs.Page.{HasRoom, Wrote};
 use pool::Answer;
 
 // A lent buffer, written from its start on.
+// Kept: no `fmt::Write` for a `Display` of answers. Its clauses speak of an `Ok` alone, and `put_line` promises the whole line in every case.
 #[derive(Drop)]
 pub struct Page<'a> {
     bytes: &'a mut [u8],
