@@ -1,7 +1,8 @@
 // A checksum of answers, records and lists.
-use idset::IdSet;
-use pool::{Answer, Pool};
-use worker::Worker;
+use pool::{Answer, Outcome, Pool};
+
+#[derive(Clone, Copy)]
+pub struct Checksum(pub u64);
 
 // The answer as one number.
 fn number(answer: Answer) -> u64 {
@@ -13,88 +14,53 @@ fn number(answer: Answer) -> u64 {
         Answer::Fired => 5,
         Answer::Posted => 6,
         Answer::Clear => 7,
-        Answer::At(label) => (label as u64) ^ 0x100,
-        Answer::Hired(guard) => (guard.0 as u64) ^ 0x200,
-        Answer::Back(count) => (count as u64) ^ 0x400,
-        Answer::Count(count) => (count as u64) ^ 0x800,
-        Answer::Fault(id, places) => (id.0 as u64) ^ ((places as u64) << 16) ^ 0x1000,
-        Answer::Refused(refusal, place) => (refusal.number() as u64)
-            ^ ((place as u64) << 16)
-            ^ 0x2000,
+        Answer::At(label) => u64::from(label) ^ 0x100,
+        Answer::Hired(guard) => u64::from(guard.0) ^ 0x200,
+        Answer::Back(count) => u64::from(count) ^ 0x400,
+        Answer::Count(count) => u64::from(count) ^ 0x800,
+        Answer::Fault(id, places) => u64::from(id.0) ^ (u64::from(places) << 16) ^ 0x1000,
+        Answer::Refused(refusal, place) => {
+            u64::from(refusal.number()) ^ ((place as u64) << 16) ^ 0x2000
+        }
     }
 }
 
-// 33 times the sum, and the number.
-fn with(sum: u64, number: u64) -> u64 {
-    let times32 = sum << 5;
-    std::num::wrapping_add_u64(std::num::wrapping_add_u64(times32, sum), number)
-}
-
-fn with_number(sum: u64, number: u32) -> u64 {
-    with(sum, number as u64)
-}
-
-fn with_byte(sum: u64, byte: u8) -> u64 {
-    with(sum, byte as u64)
-}
-
-fn with_flag(sum: u64, flag: bool) -> u64 {
-    with(sum, flag as u64)
-}
-
-pub fn with_answer(sum: u64, answer: Answer) -> u64 {
-    with(sum, number(answer))
-}
-
-pub fn with_list(sum: u64, xs: &[u32]) -> u64 {
-    let mut after = sum;
-    for k in 0..xs.len() {
-        after = with_number(after, xs[k]);
+impl Checksum {
+    // 33 times the sum, and the number.
+    fn add<N: Into<u64>>(&mut self, number: N) {
+        self.0 = self.0.wrapping_mul(33).wrapping_add(number.into());
     }
-    after
-}
 
-pub fn with_bytes(sum: u64, bytes: &[u8]) -> u64 {
-    let mut after = sum;
-    for k in 0..bytes.len() {
-        after = with_byte(after, bytes[k]);
+    pub fn add_all<N: Copy + Into<u64>>(&mut self, numbers: &[N]) {
+        for number in numbers {
+            self.add(*number);
+        }
     }
-    after
-}
 
-fn with_taken(sum: u64, xs: &[bool; 32]) -> u64 {
-    let mut after = sum;
-    for i in 0..32usize {
-        after = with_flag(after, xs[i]);
+    pub fn add_answer(&mut self, answer: Answer) {
+        self.add(number(answer));
     }
-    after
-}
 
-fn with_worker(sum: u64, me: Worker, set: IdSet) -> u64 {
-    let h = me.h;
-    let mut after = with_list(
-        sum,
-        &[me.label, me.i, me.v, h.id, h.version, me.attempts, me.max],
-    );
-    for j in 0..4usize {
-        after = with(after, set.words[j]);
+    // What a call answered; the record that it handed back is played on.
+    #[inline(always)]
+    pub fn hear(&mut self, done: Outcome) -> Pool {
+        self.add_answer(done.answer);
+        done.pool
     }
-    after
-}
 
-// Every entry of the record.
-pub fn with_record(sum: u64, p: Pool) -> u64 {
-    let mut after = with_list(sum, &[p.w, p.g, p.b, p.maxg]);
-    after = with_taken(after, &p.taken);
-    after = with_list(after, &p.employer);
-    after = with_list(after, &p.posted);
-    after = with_list(after, &p.slot_id);
-    after = with_list(after, &p.slot_version);
-    after = with_bytes(after, &p.states);
-    for k in 0..8usize {
-        let me = p.workers[k];
-        let set = p.sets[k];
-        after = with_worker(after, me, set);
+    // Every entry of the record.
+    pub fn add_record(&mut self, p: &Pool) {
+        self.add_all(&[p.w, p.g, p.b, p.maxg]);
+        self.add_all(&p.taken);
+        self.add_all(&p.employer);
+        self.add_all(&p.posted);
+        self.add_all(&p.slot_id);
+        self.add_all(&p.slot_version);
+        self.add_all(&p.states);
+        for (me, set) in p.workers.iter().zip(&p.sets) {
+            let h = me.h;
+            self.add_all(&[me.label, me.i, me.v, h.id, h.version, me.attempts, me.max]);
+            self.add_all(&set.words);
+        }
     }
-    after
 }

@@ -1,5 +1,5 @@
 // Give-ups by the length of their list.
-use crate::checksum::{with_answer, with_record};
+use crate::checksum::Checksum;
 use pool::{Pool, WorkerNo};
 
 const LONGEST: usize = 10000;
@@ -9,10 +9,10 @@ fn entry(j: usize) -> u32 {
     (j % 256 * 37 % 256 + 1) as u32
 }
 
-fn entries() -> [u32; 10000] {
-    let mut ids = [0u32; 10000];
-    for j in 0..10000usize {
-        ids[j] = entry(j);
+fn entries() -> [u32; LONGEST] {
+    let mut ids = [0u32; LONGEST];
+    for (j, id) in ids.iter_mut().enumerate() {
+        *id = entry(j);
     }
     ids
 }
@@ -29,11 +29,8 @@ fn wrong(place: usize, k: u64) -> u32 {
 }
 
 fn in_service() -> Pool {
-    let made = Pool::make(8, 32, 256);
-    let mut p = made.pool;
-    for j in 0..256usize {
-        p.states[j] = 1;
-    }
+    let mut p = Pool::make(8, 32, 256).pool;
+    p.states.fill(1);
     p
 }
 
@@ -41,33 +38,29 @@ fn in_service() -> Pool {
 // back; otherwise it is refused and changes nothing. The stores that put it back stand here and not in a function that `hand_back` shares: the record
 // handed in and out would be measured too.
 fn list(times: u64, count: usize, good: usize) -> u64 {
-    if LONGEST < count {
-        return 0;
-    }
-    if LONGEST <= good {
+    if LONGEST < count || LONGEST <= good {
         return 0;
     }
     let mut ids = entries();
+    let mut sum = Checksum(0);
     let mut p = in_service();
-    let me = p.workers[0];
-    let set = p.sets[0];
-    let states = p.states;
-    let mut sum: u64 = 0;
-    let mut k: u64 = 0;
-    while k < times {
+    let Pool {
+        workers: [me, ..],
+        sets: [set, ..],
+        states,
+        ..
+    } = p;
+    for k in 0..times {
         ids[good] = wrong(good, k);
-        let given = p.give_up(WorkerNo(1), &ids[..count]);
-        let answer = given.answer;
-        sum = with_answer(sum, answer);
-        p = given.pool;
+        p = sum.hear(p.give_up(WorkerNo(1), &ids[..count]));
         if count == good {
             p.workers[0] = me;
             p.sets[0] = set;
             p.states = states;
         }
-        k += 1;
     }
-    with_record(sum, p)
+    sum.add_record(&p);
+    sum.0
 }
 
 #[unsafe(no_mangle)]

@@ -1,5 +1,5 @@
 // A call that is refused because the record is damaged.
-use crate::checksum::{with_answer, with_record};
+use crate::checksum::Checksum;
 use crate::staff::staffed;
 use pool::WorkerNo;
 
@@ -7,23 +7,17 @@ use pool::WorkerNo;
 // after it. The number changes each time, so that no compiler can ask once for all.
 #[unsafe(no_mangle)]
 pub extern "C" fn engine_refused(times: u64, rule: usize) -> u64 {
+    let mut sum = Checksum(0);
     let mut p = staffed(32, 256);
-    let mut sum: u64 = 0;
-    let mut k: u64 = 0;
-    while k < times {
+    for k in 0..times {
         let past = 32 + (k % 2) as u32;
         if rule == 21 {
             p.maxg = past;
         } else {
-            let mut last = p.workers[7];
-            last.max = past;
-            p.workers[7] = last;
+            p.workers[7].max = past;
         }
-        let done = p.hire(WorkerNo(1));
-        let answer = done.answer;
-        sum = with_answer(sum, answer);
-        p = done.pool;
-        k += 1;
+        p = sum.hear(p.hire(WorkerNo(1)));
     }
-    with_record(sum, p)
+    sum.add_record(&p);
+    sum.0
 }

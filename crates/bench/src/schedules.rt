@@ -1,55 +1,33 @@
 // Schedules read, unrolled and played, each call's line printed into a buffer.
-use crate::checksum::{with_bytes, with_record};
+use crate::checksum::Checksum;
 use player::play_line;
 use pool::Pool;
-use schedule::Read;
 
-fn wide(x: u32) -> usize {
-    x as usize
-}
-
-fn with_first(sum: u64, bytes: &[u8], count: usize) -> u64 {
-    if bytes.len() < count {
-        return sum;
-    }
-    with_bytes(sum, &bytes[..count])
-}
-
-// The bytes that a line printed.
-fn with_line(sum: u64, line: &[u8; 8192], written: usize) -> u64 {
-    with_first(sum, line, written)
-}
-
-// The calls at the first places, from no pool on: every byte that they print, and the record that they end with.
-fn play(text: &[u8], places: &[u32; 100000], count: usize, before: u64) -> u64 {
+// The calls at the places, from no pool on: every byte that they print, and the record that they end with.
+fn play(text: &[u8], places: &[u32], sum: &mut Checksum) {
     let mut pool = Pool::blank(0, 0, 0);
     let mut line = [0u8; 8192];
-    let mut sum = before;
-    for k in 0..100000usize {
-        if count <= k {
-            break;
-        }
-        let turn = play_line(text, wide(places[k]), k + 1, pool, &mut line);
-        let written = turn.written;
+    for (k, place) in places.iter().enumerate() {
+        let turn = play_line(text, *place as usize, k + 1, pool, &mut line);
         pool = turn.pool;
-        sum = with_line(sum, &line, written);
+        sum.add_all(&line[..turn.written]);
     }
-    with_record(sum, pool)
+    sum.add_record(&pool);
 }
 
 // The whole text, read and played so many times over.
 fn played(text: &[u8], times: u64) -> u64 {
     let mut places = [0u32; 100000];
-    let mut sum = with_bytes(0, text);
-    let mut k: u64 = 0;
-    while k < times {
-        let read = schedule::unroll(text, &mut places);
-        if let Read::Calls(count) = read {
-            sum = play(text, &places, count, sum);
+    let mut sum = Checksum(0);
+    sum.add_all(text);
+    for _ in 0..times {
+        if let Ok(count) = schedule::unroll(text, &mut places)
+            && let Some(calls) = places.get(..count)
+        {
+            play(text, calls, &mut sum);
         }
-        k += 1;
     }
-    sum
+    sum.0
 }
 
 // A round of 33 calls that ends as it began, 3,000 times: guard 0 is hired, posted on buffer 1 while worker 2 gives it up, stood down and fired.
@@ -110,32 +88,27 @@ end
 }
 
 fn digit(n: usize) -> u8 {
-    48 + (n % 10) as u8
+    b'0' + (n % 10) as u8
 }
 
-// Byte j of question k.
-fn question(k: usize, j: usize) -> u8 {
+// Question k.
+fn question(k: usize) -> [u8; 10] {
     let b = 100 + k / 8 % 157;
-    let ask = b"ask 1 100\n";
-    match j {
-        4 => digit(1 + k % 8),
-        6 => digit(b / 100),
-        7 => digit(b / 10),
-        8 => digit(b),
-        _ => ask[j % 10],
-    }
+    let mut ask = *b"ask 1 100\n";
+    ask[4] = digit(1 + k % 8);
+    ask[6] = digit(b / 100);
+    ask[7] = digit(b / 10);
+    ask[8] = digit(b);
+    ask
 }
 
 // The longest text: 1,637 questions, each on a line of its own.
 fn questions() -> [u8; 16384] {
-    let make = b"make 8 32 256\n";
     let mut text = [0u8; 16384];
-    for i in 0..16384usize {
-        if i < 14 {
-            text[i] = make[i];
-        } else {
-            text[i] = question((i - 14) / 10, (i - 14) % 10);
-        }
+    let (make, asks) = text.split_at_mut(14);
+    make.copy_from_slice(b"make 8 32 256\n");
+    for (k, ask) in asks.chunks_exact_mut(10).enumerate() {
+        ask.copy_from_slice(&question(k));
     }
     text
 }

@@ -1,5 +1,5 @@
-pub mod Arms
 pub mod Laws
-pub mod Spans
+pub mod Digits
+pub mod Tally
 pub mod Said
 pub mod Lawful

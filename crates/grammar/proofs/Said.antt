@@ -1,66 +1,95 @@
 -- What a line says, in the words of the calls' answers. Assumes nothing.
-use Prim.Native.Nat.{ℕ, ◌+◌, ◌-◌, ◌≤◌, ◌<◌}
-use native.Mathlib.Omega.{arith}
-use mathlib.Core.Path.{◌≡◌, refl, ap, sym, ◌∙◌}
-use mathlib.Core.List.{List, [], ◌∷◌}
-use mathlib.Core.Bool.{true, false, not}
-use lib.ListN.{length, get_or}
-use borrow.Author.Tests.{le-leb, lt-leb, not-true, not-false}
+use Rattle.std.proofs.Common.{◌≡◌, ℕ, ◌<◌, List, [], ◌∷◌, length, get_or, take, drop, min, Bool, true, false, Option, Result, Ok, Err, Some, None, refl, ap, sym, ◌∙◌, arith}
+use Rattle.std.specs.List.{slice_range}
+use Rattle.std.specs.Result.{result_ok}
+use Rattle.std.proofs.lemmas.List.{drop_more}
+use borrow.Author.Tests.{le-leb, lt-leb, ne_eqb}
 use Rattle.basics.specs.Pick.{when}
 use Rattle.tables.specs.Write.{write_at}
 use Rattle.tables.proofs.Laws.{write_beyond}
-use Rattle.grammar.specs.declared.numbers.Numbers.{Numbers}
 use Rattle.grammar.specs.declared.Line.{Line}
-use Rattle.grammar.specs.declared.Line.TheVariants.{Wrong}
-use Rattle.grammar.specs.declared.names.Verb.{Verb}
-use Rattle.grammar.specs.Line.{stop_of, line_by, line_from, line_of, verb_of, numbers_at}
-use Rattle.grammar.specs.Words.{span, words, word_length, words_after, numbers_of, all_numbers, tell_numbers}
-use Rattle.grammar.proofs.Laws.{stop_of_within}
-use Rattle.grammar.proofs.Spans.{words_to, word_within}
+use Rattle.grammar.specs.Line.{stop_of, line_by, line_of, numbers_at}
+use Rattle.grammar.specs.Words.{words, numbers_of, all_numbers, tally}
 
--- the first three of the numbers, in a list of three zeros
-first_three : (l : List ℕ) → write_at (0 ∷ 0 ∷ 0 ∷ []) 0 l ≡ get_or l 0 0 ∷ get_or l 1 0 ∷ get_or l 2 0 ∷ []
+-- the first four of the numbers, in a list of four zeros
+first_few : (l : List ℕ) → take (min (length l) 4) (write_at (0 ∷ 0 ∷ 0 ∷ 0 ∷ []) 0 l) ≡ take 4 l
 unfolding write_at
-first_three [] = refl
-first_three (x ∷ []) = refl
-first_three (x ∷ y ∷ []) = refl
-first_three (x ∷ y ∷ z ∷ l) = write_beyond (x ∷ y ∷ z ∷ []) 3 l (omega arith)
+first_few [] = refl
+first_few (x ∷ []) = refl
+first_few (x ∷ y ∷ []) = refl
+first_few (x ∷ y ∷ z ∷ []) = refl
+first_few (x ∷ y ∷ z ∷ u ∷ l) =
+    let four : min (length (x ∷ y ∷ z ∷ u ∷ l)) 4 ≡ 4 = omega arith in
+    rw (four, write_beyond (x ∷ y ∷ z ∷ u ∷ []) 4 l (omega arith))
 
-module _ (s : List ℕ) (at e : ℕ) (h : at ≤ length s) (p : e ≡ stop_of s at) where
-  pub line_within : (at ≤ e) × (e ≤ length s)
-  line_within = rw p (stop_of_within s at h)
+-- no line has more than three numbers of its own
+by_few : (w ns : List ℕ) → line_by w (take 4 ns) ≡ line_by w ns
+by_few w [] = refl
+by_few w (x ∷ []) = refl
+by_few w (x ∷ y ∷ []) = refl
+by_few w (x ∷ y ∷ z ∷ []) = refl
+by_few w (x ∷ y ∷ z ∷ u ∷ ns) =
+    let n = length (x ∷ y ∷ z ∷ u ∷ ns) in
+    rw (ne_eqb n 3 (λ e. omega arith), ne_eqb n 2 (λ e. omega arith), ne_eqb n 1 (λ e. omega arith), ne_eqb n 0 (λ e. omega arith), le-leb 1 n (omega arith))
 
-  pub line_none : length s ≤ e → Wrong ≡ line_of s at
+-- the tally, where it is asked for all or nothing
+told_some : (t : Bool) (m n : ℕ) → Some n ≡ result_ok {E = ℕ} (when t (Ok m) (Err m)) → (t ≡ true) × (n ≡ m)
+unfolding when
+told_some true m n h = (refl, cc)
+told_some false m n h = cc
+
+told_none : (t : Bool) (m : ℕ) → None ≡ result_ok {E = ℕ} (when t (Ok m) (Err m)) → t ≡ false
+unfolding when
+told_none true m h = cc
+told_none false m h = refl
+
+module _ (s : List ℕ) (at e : ℕ) (p : e ≡ stop_of s at) where
+  pub line_none : e ≡ length s → None ≡ line_of s at
   unfolding line_of when
-  line_none l = rw (← p, le-leb (length s) e l)
+  line_none l = rw (← p, le-leb (length s) e (omega arith))
 
-  module _ (w : ℕ) (q : w ≡ at + word_length (span s at (e - at))) where
-    pub first_within : (at ≤ w) × (w ≤ e)
-    first_within = word_within s at e w line_within.0 q
+  -- a line with a newline, with its first word
+  module _ (l : e < length s) (w : List ℕ) (f : (0 < length (words (slice_range s at e))) × (w ≡ get_or (words (slice_range s at e)) 0 w)) where
+    abbrev others : List (List ℕ)
+    others = drop 1 (words (slice_range s at e))
 
-    line_words : words (span s at (e - at)) ≡ span s at (w - at) ∷ words_after (span s w (e - w))
-    line_words = words_to s at e w q
+    first : words (slice_range s at e) ≡ w ∷ others
+    first = drop_more (words (slice_range s at e)) 0 w f.0 ∙ ap (λ (x : List ℕ). x ∷ others) (sym f.1)
 
-    pub line_numbers : numbers_of (words_after (span s w (e - w))) ≡ numbers_at s at
-    unfolding numbers_at
-    line_numbers = rw (← p, line_words)
+    line_is : line_of s at ≡ when (all_numbers others) (line_by w (numbers_of others)) None
+    unfolding line_of when
+    line_is = rw (← p, lt-leb (length s) e l, first)
 
-    module _ (l : e < length s) (r : Numbers) (t : r ≡ tell_numbers (words_after (span s w (e - w)))) where
-      line_is : line_of s at ≡ when (all_numbers (words_after (span s w (e - w)))) (line_from (verb_of (span s at (w - at))) (numbers_of (words_after (span s w (e - w))))) Wrong
-      unfolding line_of when
-      line_is = rw (← p, lt-leb (length s) e l, line_words)
+    pub line_bad : None ≡ result_ok (tally others) → None ≡ line_of s at
+    unfolding when
+    line_bad t = sym (line_is ∙ rw (told_none (all_numbers others) (length (numbers_of others)) t))
 
-      all_told : r.all ≡ all_numbers (words_after (span s w (e - w)))
-      all_told = ap (λ (n : Numbers). n.all) t
+    pub line_told : (n : ℕ) (list : List ℕ) (x : Option Line) → Some n ≡ result_ok (tally others) → list ≡ write_at (0 ∷ 0 ∷ 0 ∷ 0 ∷ []) 0 (numbers_of others) → x ≡ line_by w (take (min n 4) list) → x ≡ line_of s at
+    unfolding when
+    line_told n list x t q y =
+        let o = told_some (all_numbers others) (length (numbers_of others)) n t in
+        (rw (o.1, q, first_few (numbers_of others), by_few w (numbers_of others)) at y) ∙ sym (line_is ∙ rw o.0)
 
-      pub line_bad : not r.all ≡ true → Wrong ≡ line_of s at
-      unfolding when
-      line_bad b = sym (line_is ∙ rw (← all_told, not-true r.all b))
+-- how many numbers there are, whether all words are or not
+count_ok : (t : Bool) (m n : ℕ) → ◌≡◌ {A = Result ℕ ℕ} (Ok n) (when t (Ok m) (Err m)) → n ≡ m
+unfolding when
+count_ok true m n h = cc
+count_ok false m n h = cc
 
-      pub line_told : (v : Verb) (f : List ℕ) (x : Line) → not r.all ≡ false → v ≡ verb_of (span s at (w - at)) → f ≡ write_at (0 ∷ 0 ∷ 0 ∷ []) 0 (numbers_of (words_after (span s w (e - w))))
-          → x ≡ line_by v r.count (get_or f 0 0) (get_or f 1 0) (get_or f 2 0) → x ≡ line_of s at
-      unfolding when
-      line_told v f x b u g y =
-          let z : f ≡ _ = g ∙ first_three (numbers_of (words_after (span s w (e - w)))) in
-          let n : r.count ≡ length (numbers_of (words_after (span s w (e - w)))) = ap (λ (m : Numbers). m.count) t in
-          (rw (u, z, n) at y) ∙ sym (line_is ∙ rw (← all_told, not-false r.all b))
+count_err : (t : Bool) (m n : ℕ) → ◌≡◌ {A = Result ℕ ℕ} (Err n) (when t (Ok m) (Err m)) → n ≡ m
+unfolding when
+count_err true m n h = cc
+count_err false m n h = cc
+
+module _ (s : List ℕ) (at e : ℕ) (p : e ≡ stop_of s at) where
+  pub numbers_ok : (n : ℕ) → Ok n ≡ tally (drop 1 (words (slice_range s at e))) → n ≡ length (numbers_at s at)
+  unfolding numbers_at
+  numbers_ok n h = rw (← p) (count_ok _ _ n h)
+
+  pub numbers_err : (n : ℕ) → Err n ≡ tally (drop 1 (words (slice_range s at e))) → n ≡ length (numbers_at s at)
+  unfolding numbers_at
+  numbers_err n h = rw (← p) (count_err _ _ n h)
+
+  pub numbers_listed : (t u : List ℕ) → u ≡ write_at t 0 (numbers_of (drop 1 (words (slice_range s at e)))) → u ≡ write_at t 0 (numbers_at s at)
+  unfolding numbers_at
+  numbers_listed t u h = rw (← p) h

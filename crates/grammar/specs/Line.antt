@@ -1,24 +1,19 @@
 -- The lines of a text: where each ends, and what it says.
-use Rattle.std.specs.Prelude.{ℕ, zero, suc, ◌+◌, ◌-◌, List, [], ◌∷◌, length, get_or, eqb, leb, ltb}
+use Rattle.std.specs.Prelude.{ℕ, ◌+◌, ◌&&◌, List, [], ◌∷◌, length, get_or, drop, eqb, leb, ltb, codes, if◌then◌else◌, Option, Some, None, option_map}
+use Rattle.std.specs.List.{slice_range, position_or_len}
+use Rattle.std.specs.Str.{bytes_eq}
 use Rattle.basics.specs.Pick.{when}
-use Rattle.tables.specs.Bytes.{bytes}
 use Rattle.grammar.specs.declared.Line.{Line}
-use Rattle.grammar.specs.declared.Line.TheVariants.{Make, Take, Hire, Fire, Post, Give, Ask, Step, Repeat, End, Wrong}
+use Rattle.grammar.specs.declared.Line.TheVariants.{Make, Take, Hire, Fire, Post, Give, Ask, Step, Repeat, End}
 use Rattle.grammar.specs.declared.Kind.{Kind}
 use Rattle.grammar.specs.declared.Kind.TheVariants as are
-use Rattle.grammar.specs.declared.names.Verb.{Verb}
-use Rattle.grammar.specs.declared.names.Verb.TheVariants.{Making, Taking, Hiring, Firing, Posting, Giving, Asking, Stepping, Repeating, Ending, Unknown}
-use Rattle.grammar.specs.Words.{span, words, same, numbers_of, all_numbers}
+use Rattle.grammar.specs.Words.{words, numbers_of, all_numbers}
 
 -- ---- where a line ends
 
--- the place of the first newline from i on, or the text's length; k bytes are left
-unfoldable pub stop_from : ℕ → List ℕ → ℕ → ℕ
-stop_from zero s i = i
-stop_from (suc k) s i = when (eqb (get_or s i 0) 10) i (stop_from k s (i + 1))
-
+-- the place of the first newline from `at` on, or the text's length
 unfoldable pub stop_of : List ℕ → ℕ → ℕ
-stop_of s at = stop_from (length s - at) s at
+stop_of s at = at + position_or_len (λ b. eqb b 10) (drop at s)
 
 -- where the line after the one at `at` starts
 unfoldable pub after_of : List ℕ → ℕ → ℕ
@@ -26,64 +21,39 @@ after_of s at = when (ltb (stop_of s at) (length s)) (stop_of s at + 1) (stop_of
 
 -- ---- what a line says
 
-unfoldable pub block_verb : List ℕ → Verb
-block_verb w =
-    when (same w (bytes "repeat")) Repeating
-    (when (same w (bytes "end")) Ending Unknown)
+-- a line that takes n numbers
+abbrev pub with_numbers : ℕ → List ℕ → Line → Option Line
+with_numbers n ns l = if eqb (length ns) n then Some l else None
 
-unfoldable pub buffer_verb : List ℕ → Verb
-buffer_verb w =
-    when (same w (bytes "give")) Giving
-    (when (same w (bytes "ask")) Asking
-    (when (same w (bytes "step")) Stepping (block_verb w)))
+-- by its first word and the numbers after it
+abbrev pub line_by : List ℕ → List ℕ → Option Line
+line_by w ns =
+    if bytes_eq w (codes "make") then with_numbers 3 ns (Make (get_or ns 0 0) (get_or ns 1 0) (get_or ns 2 0))
+    else (if bytes_eq w (codes "take") then with_numbers 1 ns (Take (get_or ns 0 0))
+    else (if bytes_eq w (codes "hire") then with_numbers 1 ns (Hire (get_or ns 0 0))
+    else (if bytes_eq w (codes "fire") then with_numbers 2 ns (Fire (get_or ns 0 0) (get_or ns 1 0))
+    else (if bytes_eq w (codes "post") then with_numbers 3 ns (Post (get_or ns 0 0) (get_or ns 1 0) (get_or ns 2 0))
+    else (if bytes_eq w (codes "give") then (if leb 1 (length ns) then Some (Give (get_or ns 0 0)) else None)
+    else (if bytes_eq w (codes "ask") then with_numbers 2 ns (Ask (get_or ns 0 0) (get_or ns 1 0))
+    else (if bytes_eq w (codes "step") then with_numbers 1 ns (Step (get_or ns 0 0))
+    else (if bytes_eq w (codes "repeat") then (if leb 1 (get_or ns 0 0) && leb (get_or ns 0 0) 1000 then with_numbers 1 ns (Repeat (get_or ns 0 0)) else None)
+    else (if bytes_eq w (codes "end") then with_numbers 0 ns End
+    else None)))))))))
 
-unfoldable pub guard_verb : List ℕ → Verb
-guard_verb w =
-    when (same w (bytes "hire")) Hiring
-    (when (same w (bytes "fire")) Firing
-    (when (same w (bytes "post")) Posting (buffer_verb w)))
+abbrev pub line_of_words : List (List ℕ) → Option Line
+line_of_words [] = None
+line_of_words (w ∷ ws) = when (all_numbers ws) (line_by w (numbers_of ws)) None
 
--- by the first word
-unfoldable pub verb_of : List ℕ → Verb
-verb_of w =
-    when (same w (bytes "make")) Making
-    (when (same w (bytes "take")) Taking (guard_verb w))
-
--- with n numbers after it, of which a, b and c are the first
-abbrev pub line_by : Verb → ℕ → ℕ → ℕ → ℕ → Line
-line_by Making n a b c = when (eqb n 3) (Make a b c) Wrong
-line_by Taking n a b c = when (eqb n 1) (Take a) Wrong
-line_by Hiring n a b c = when (eqb n 1) (Hire a) Wrong
-line_by Firing n a b c = when (eqb n 2) (Fire a b) Wrong
-line_by Posting n a b c = when (eqb n 3) (Post a b c) Wrong
-line_by Giving n a b c = when (leb 1 n) (Give a) Wrong
-line_by Asking n a b c = when (eqb n 2) (Ask a b) Wrong
-line_by Stepping n a b c = when (eqb n 1) (Step a) Wrong
-line_by Repeating n a b c = when (eqb n 1) (when (leb 1 a) (when (leb a 1000) (Repeat a) Wrong) Wrong) Wrong
-line_by Ending n a b c = when (eqb n 0) End Wrong
-line_by Unknown n a b c = Wrong
-
-abbrev pub line_from : Verb → List ℕ → Line
-line_from v ns = line_by v (length ns) (get_or ns 0 0) (get_or ns 1 0) (get_or ns 2 0)
-
-abbrev pub line_of_words : List (List ℕ) → Line
-line_of_words [] = Wrong
-line_of_words (w ∷ ws) = when (all_numbers ws) (line_from (verb_of w) (numbers_of ws)) Wrong
-
--- the line at `at` without its newline; one that has none is wrong
+-- the line at `at` without its newline; one that has none is not lawful
 abbrev pub words_at : List ℕ → ℕ → List (List ℕ)
-words_at s at = words (span s at (stop_of s at - at))
+words_at s at = words (slice_range s at (stop_of s at))
 
-unfoldable pub line_of : List ℕ → ℕ → Line
-line_of s at = when (leb (length s) (stop_of s at)) Wrong (line_of_words (words_at s at))
+unfoldable pub line_of : List ℕ → ℕ → Option Line
+line_of s at = when (leb (length s) (stop_of s at)) None (line_of_words (words_at s at))
 
 -- the numbers of the line at `at`
-abbrev pub numbers_in : List (List ℕ) → List ℕ
-numbers_in [] = []
-numbers_in (w ∷ ws) = numbers_of ws
-
 unfoldable pub numbers_at : List ℕ → ℕ → List ℕ
-numbers_at s at = numbers_in (words_at s at)
+numbers_at s at = numbers_of (drop 1 (words_at s at))
 
 -- ---- what a line is to whoever reads blocks
 
@@ -98,7 +68,6 @@ kind (Ask w b) = are.Call
 kind (Step w) = are.Call
 kind (Repeat n) = are.Repeat n
 kind End = are.End
-kind Wrong = are.Wrong
 
-unfoldable pub kind_of : List ℕ → ℕ → Kind
-kind_of s at = kind (line_of s at)
+unfoldable pub kind_of : List ℕ → ℕ → Option Kind
+kind_of s at = option_map kind (line_of s at)

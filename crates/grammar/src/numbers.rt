@@ -1,121 +1,41 @@
-// The words of a line, and the numbers among them.
-ghost use Rattle.std.specs.Prelude.{◌≡◌, true, ◌+◌, ◌*◌, ◌-◌, ◌≤◌, length, set};
+// The words of a line after its first, as numbers.
+ghost use Rattle.std.specs.Prelude.{◌≡◌, drop};
 ghost use Rattle.tables.specs.Write.{write_at};
-ghost use Rattle.grammar.specs.Words.{span, word_length, is_digit, unpadded, number_of, words_after, numbers_of, tell_numbers};
+ghost use Rattle.grammar.specs.Words.{words, number_of, numbers_of, tally};
 
-// What a word is as a number.
-#[derive(Clone, Copy)]
-pub enum Number {
-    Value(u32),
-    No,
-}
-
-// How many numbers there are before the first word that is none, and whether every word is one.
-#[derive(Clone, Copy)]
-pub struct Numbers {
-    pub count: usize,
-    pub all: bool,
-}
-
-// The end of the word that starts at i, in a line that ends at e.
-pub fn word_end(s: &[u8], i: usize, e: usize) -> usize
-    requires { (i ≤ e) × (e ≤ length s.now) }
-    ensures { result ≡ i + word_length (span s.now i (e - i)) }
+// The word as a number: its digits, with no leading zero.
+fn number(word: &[u8]) -> Option<u32>
+    ensures { result ≡ number_of word.now }
 {
-    let mut j = i;
-    while j < e {
-        if s[j] == b' ' {
-            return j;
+    if let [] | [b'0', _, ..] = word {
+        return None;
+    }
+    let mut v: u32 = 0;
+    for b in word {
+        if !b.is_ascii_digit() {
+            return None;
         }
-        j = j + 1;
+        v = v.checked_mul(10)?.checked_add(u32::from(*b - b'0'))?;
     }
-    j
+    Some(v)
 }
 
-fn is_digit(b: u8) -> bool
-    ensures { result ≡ is_digit b }
+// Puts the numbers at the start of a list, as far as it goes. Answers how many there are: `Ok` if every word is one, else `Err` with those before the first
+// that is none.
+pub fn put_numbers(line: &[u8], list: &mut [u32]) -> Result<usize, usize>
+    ensures value { result ≡ tally (drop 1 (words line.now)) }
+    ensures list_after { list.new ≡ write_at list.old 0 (numbers_of (drop 1 (words line.now))) }
 {
-    if b < 48 { false } else { b <= 57 }
-}
-
-fn with_digit(v: usize, b: u8) -> usize
-    requires { (v ≤ 4294967295) × (is_digit b ≡ true) }
-    ensures { result ≡ v * 10 + (b - 48) }
-{
-    v * 10 + ((b - 48) as usize)
-}
-
-// Whether the word from i to j is not empty and has no leading zero.
-fn unpadded_at(s: &[u8], i: usize, j: usize) -> bool
-    requires { (i ≤ j) × (j ≤ length s.now) }
-    ensures { result ≡ unpadded (span s.now i (j - i)) }
-{
-    if i == j {
-        return false;
-    }
-    if i + 1 == j {
-        return true;
-    }
-    s[i] != b'0'
-}
-
-// The word from i to j as a number.
-fn number_at(s: &[u8], i: usize, j: usize) -> Number
-    requires { (i ≤ j) × (j ≤ length s.now) }
-    ensures { result ≡ number_of (span s.now i (j - i)) }
-{
-    if !unpadded_at(s, i, j) {
-        return Number::No;
-    }
-    let mut v: usize = 0;
-    let mut q = i;
-    while q < j {
-        if !is_digit(s[q]) {
-            return Number::No;
+    let mut n = 0;
+    for word in line.split(|b| *b == b' ').skip(1) {
+        let Some(v) = number(word) else {
+            return Err(n);
+        };
+        // Kept: no `get_mut`, after which the proof would know the list's length alone.
+        if n < list.len() {
+            list[n] = v;
         }
-        v = with_digit(v, s[q]);
-        if 4294967295 < v {
-            return Number::No;
-        }
-        q = q + 1;
+        n += 1;
     }
-    Number::Value(v as u32)
-}
-
-fn store(list: &mut [u32], n: usize, v: u32)
-    ensures { list.new ≡ set list.old n v }
-{
-    if n < list.len() {
-        list[n] = v;
-    }
-}
-
-// Puts the numbers after the word that ends at w at the start of a list, as far as it goes.
-pub fn numbers_at(s: &[u8], w: usize, e: usize, list: &mut [u32]) -> Numbers
-    requires { (w ≤ e) × (e ≤ length s.now) }
-    ensures value { result ≡ tell_numbers (words_after (span s.now w (e - w))) }
-    ensures list_after { list.new ≡ write_at list.old 0 (numbers_of (words_after (span s.now w (e - w)))) }
-{
-    let mut i = w;
-    let mut n: usize = 0;
-    while i < e {
-        let j = word_end(s, i + 1, e);
-        match number_at(s, i + 1, j) {
-            Number::No => {
-                return Numbers {
-                    count: n,
-                    all: false,
-                };
-            }
-            Number::Value(v) => {
-                store(list, n, v);
-                n = n + 1;
-                i = j;
-            }
-        }
-    }
-    Numbers {
-        count: n,
-        all: true,
-    }
+    Ok(n)
 }

@@ -3,113 +3,67 @@
 
 ghost use Rattle.std.specs.Prelude.{◌≤◌, length};
 
+use arrayvec::ArrayVec;
 use player::{play_line, put_read};
 use pool::Pool;
-use schedule::Read;
 use std::io;
 
-// A line is shorter than half a page.
-const HALF: usize = 32768;
+// What is printed and not yet written out.
+// Kept: a `BufWriter` would take heap, and when it is dropped it writes once more after a write that failed.
+type Page = ArrayVec<u8, 65536>;
 
-fn put_byte(page: &mut [u8], at: usize, byte: u8) -> usize {
-    if page.len() <= at {
-        return at;
-    }
-    page[at] = byte;
-    at + 1
-}
-
-// Puts the first n bytes of a line behind what is filled.
-fn put_line(page: &mut [u8], filled: usize, line: &[u8], n: usize) -> usize {
-    let mut to = filled;
-    for i in 0..line.len() {
-        if n <= i {
-            return to;
-        }
-        to = put_byte(page, to, line[i]);
-    }
-    to
-}
-
-// Writes out what is filled.
-fn write_page(rt: &impl Print, page: &[u8], filled: usize) -> io::Result<()> {
-    if page.len() < filled {
+// Puts a line into the page. Where it has no room, both are written out.
+fn print(rt: &impl Print, page: &mut Page, line: &[u8]) -> io::Result<()> {
+    if page.try_extend_from_slice(line).is_ok() {
         return Ok(());
     }
-    rt.write_all(&page[..filled])
-}
-
-// The page with less than half of it filled: what there is is written out where it is more.
-fn with_room(rt: &impl Print, page: &[u8], filled: usize) -> io::Result<usize> {
-    if filled < HALF {
-        return Ok(filled);
-    }
-    write_page(rt, page, filled)?;
-    Ok(0)
-}
-
-fn wide(place: u32) -> usize {
-    place as usize
+    rt.write_all(page.as_slice())?;
+    page.clear();
+    rt.write_all(line)
 }
 
 // The calls at the places, one after the other.
-fn play_calls(rt: &impl Print, text: &[u8], places: &[u32], page: &mut [u8]) -> io::Result<()> {
+fn play_calls(rt: &impl Print, text: &[u8], places: &[u32]) -> io::Result<()> {
+    let mut page = Page::new();
     let mut line = [0u8; 8192];
     let mut pool = Pool::blank(0, 0, 0);
-    let mut filled: usize = 0;
-    let mut k: usize = 0;
-    while k < places.len() {
-        let number = k + 1;
-        let turn = play_line(text, wide(places[k]), number, pool, &mut line);
-        let written = turn.written;
+    for (k, place) in places.iter().enumerate() {
+        let turn = play_line(text, *place as usize, k + 1, pool, &mut line);
         pool = turn.pool;
-        let room = with_room(rt, page, filled)?;
-        filled = put_line(page, room, &line, written);
-        k = number;
+        print(rt, &mut page, &line[..turn.written])?;
     }
-    write_page(rt, page, filled)
+    rt.write_all(page.as_slice())
 }
 
 fn play(rt: &impl Print, text: &[u8]) -> io::Result<()> {
     let mut places = [0u32; 100000];
-    let mut page = [0u8; 65536];
-    let read = schedule::unroll(text, &mut places);
-    if let Read::Calls(count) = read {
-        return play_calls(rt, text, &places[..count], &mut page);
+    match schedule::unroll(text, &mut places) {
+        Ok(count) => play_calls(rt, text, &places[..count]),
+        unread => {
+            let mut line = [0u8; 8192];
+            let written = put_read(unread, &mut line);
+            rt.write_all(&line[..written])
+        }
     }
-    let mut line = [0u8; 8192];
-    let written = put_read(read, &mut line);
-    write_page(rt, &line, written)
 }
 
 // Reads until the buffer is full, the input ends or a read fails, and answers how much was read.
+// Kept: `read_exact` does not say how much there was, and `read_to_end` takes heap and goes on after some reads that failed.
 fn read_full<R: io::Read>(input: &mut R, buffer: &mut [u8]) -> usize
     ensures { result ≤ length buffer.new }
 {
-    let mut filled: usize = 0;
+    let mut filled = 0;
     while filled < buffer.len() {
-        let got = read_once(input, &mut buffer[filled..]);
-        if got == 0 {
-            return filled;
+        match input.read(&mut buffer[filled..]) {
+            Ok(0) | Err(_) => break,
+            Ok(got) => filled += got,
         }
-        filled += got;
     }
     filled
 }
 
-// How much one read puts at the start of the buffer: nothing where it fails.
-fn read_once<R: io::Read>(input: &mut R, buffer: &mut [u8]) -> usize
-    ensures { result ≤ length buffer.new }
-{
-    match input.read(buffer) {
-        Ok(got) => got,
-        Err(_) => 0,
-    }
-}
-
 fn main(rt: HostRuntime) -> io::Result<()> {
     let mut text = [0u8; 16385];
-    let mut input = rt.reader();
-    let n = read_full(&mut input, &mut text);
+    let n = read_full(&mut rt.reader(), &mut text);
     play(&rt, &text[..n])
 }

@@ -8,8 +8,8 @@ use Rattle.tables.specs.Bytes.{bytes}
 use Rattle.pool.specs.Make.{make_of}
 use Rattle.rules.specs.Calls.{Call, hiring, advancing}
 use Rattle.rules.proofs.Computing.{computing}
-use Rattle.grammar.specs.Line.{stop_from, stop_of, verb_of, guard_verb, buffer_verb, block_verb, line_of, numbers_at}
-use Rattle.grammar.specs.Words.{span, words, same, digits, value, unpadded, number_of, numbers_of, all_numbers}
+use Rattle.grammar.specs.Line.{stop_of, line_of, numbers_at}
+use Rattle.grammar.specs.Words.{words, digits, value, unpadded, number_of, numbers_of, all_numbers}
 use Rattle.printed.specs.Printed.{decimal_in, decimal, spaced, in_words, line_for}
 use Rattle.schedule.proofs.Examples.{examples}
 use Rattle.player.specs.Turns.{Deed, makes, deed_at}
@@ -26,11 +26,11 @@ abbrev step : Call
 step = advancing 1 (replicate 256 0)
 
 making : deed_at text 0 ≡ makes 1 1 1
-unfolding deed_at when stop_from stop_of verb_of guard_verb buffer_verb block_verb line_of numbers_at span words same digits value unpadded number_of numbers_of all_numbers
+unfolding deed_at when stop_of line_of numbers_at words digits value unpadded number_of numbers_of all_numbers
 making = refl
 
 calls : unrolled text places ≡ hiring 1 ∷ step ∷ step ∷ step ∷ []
-unfolding unrolled deed_at when stop_from stop_of verb_of guard_verb buffer_verb block_verb line_of numbers_at span words same digits value unpadded number_of numbers_of all_numbers
+unfolding unrolled deed_at when stop_of line_of numbers_at words digits value unpadded number_of numbers_of all_numbers
 calls = refl
 
 answers : played_from (hiring 1 ∷ step ∷ step ∷ step ∷ []) (makes 1 1 1) ≡ bytes "1 ok\n2 ok\n3 at 4\n4 at 6\n5 guard 0\n"

@@ -1,31 +1,26 @@
--- What is printed of a text that is not played, in the words of the calls' answers. Assumes nothing.
-use Prim.Native.Nat.{ℕ, ◌+◌, ◌≤◌}
+-- What is printed of a text that is not played has room on a page, and in a line. Assumes nothing.
+use Prim.Native.Nat.{ℕ, ◌≤◌}
 use native.Mathlib.Omega.{arith}
 use mathlib.Core.Path.{◌≡◌}
-use mathlib.Core.List.{List, ◌++◌}
-use lib.ListN.{length}
+use mathlib.Core.List.{List}
+use lib.ListN.{length, length-append}
+use Rattle.std.proofs.Common.{Result, Ok, Err}
 use Rattle.tables.specs.Bytes.{bytes}
-use Rattle.tables.specs.Write.{write_at}
+use Rattle.printed.specs.declared.Page.{Page}
+use Rattle.printed.specs.Page.{HasRoom}
 use Rattle.printed.specs.Printed.{decimal}
-use Rattle.tables.proofs.Left.{put_both}
-use Rattle.printed.proofs.Laws.{decimal_fits}
-use Rattle.schedule.specs.declared.Read.{Read}
-use Rattle.schedule.specs.declared.Read.TheVariants.{BadLine}
-use Rattle.player.specs.Transcript.{judgement}
+use Rattle.printed.proofs.Laws.{decimal_fits, room_from_start}
+use Rattle.schedule.specs.declared.Unread.{Unread}
+use Rattle.schedule.specs.declared.Unread.TheVariants.{TooLong, BadLine}
+use Rattle.player.specs.Transcript.{bad_line_bytes, judgement}
 
-pub number_room : (n at m : ℕ) → at ≤ 100 → 8192 ≤ m → at + length (decimal n) ≤ m
-number_room n at m a b = omega (arith, decimal_fits n)
+pub bad_line_room : {p : Page} {t : List ℕ} (n : ℕ) → p.at ≡ 0 → p.bytes.now ≡ t → length t ≡ 8192 → HasRoom p (bad_line_bytes n)
+bad_line_room n start lent h = room_from_start start lent (omega (arith, h, length-append (decimal n) (bytes "\n"), decimal_fits n))
 
-pub line_room : (n from to m : ℕ) → from ≡ 0 + length (bytes "bad line ") → to ≡ from + length (decimal n) → 8192 ≤ m → to + length (bytes "\n") ≤ m
-line_room n from to m a b h = omega (arith, a, b, decimal_fits n)
+judgement_fits : (r : Result ℕ Unread) → length (judgement r) ≤ 8192
+judgement_fits (Ok n) = omega arith
+judgement_fits (Err TooLong) = omega arith
+judgement_fits (Err (BadLine n)) = omega (arith, length-append (decimal n) (bytes "\n"), decimal_fits n)
 
-pub judged_whole : (d e : Read) (t u : List ℕ) (r : ℕ) → d ≡ e → r ≡ length (judgement e) → u ≡ write_at t 0 (judgement e) → (r ≡ length (judgement d)) × (u ≡ write_at t 0 (judgement d))
-judged_whole d e t u r h a b = rw h (a, b)
-
-pub judged_bad : (n : ℕ) (t w v x : List ℕ) (from to r : ℕ) (d : Read) → d ≡ BadLine n → from ≡ 0 + length (bytes "bad line ") → w ≡ write_at t 0 (bytes "bad line ")
-    → to ≡ from + length (decimal n) → v ≡ write_at w from (decimal n) → r ≡ to + length (bytes "\n") → x ≡ write_at v to (bytes "\n")
-    → (r ≡ length (judgement d)) × (x ≡ write_at t 0 (judgement d))
-judged_bad n t w v x from to r d h a b c e f g =
-    let last = put_both w v x (decimal n) (bytes "\n") from to r c e f g in
-    let all = put_both t w x (bytes "bad line ") (decimal n ++ bytes "\n") 0 from r a b last.0 last.1 in
-    judged_whole d (BadLine n) t x r h (omega (arith, all.0)) all.1
+pub judgement_within : (r : Result ℕ Unread) (n m : ℕ) → n ≡ length (judgement r) → m ≡ 8192 → n ≤ m
+judgement_within r n m e f = omega (arith, e, f, judgement_fits r)

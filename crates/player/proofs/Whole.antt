@@ -5,11 +5,12 @@ use mathlib.Core.Path.{◌≡◌, refl, ap, sym, ◌∙◌, subst}
 use mathlib.Core.List.{List, [], ◌∷◌, ◌++◌}
 use lib.ListN.{length}
 use borrow.Author.Tests.{le-ltb}
+use Rattle.std.proofs.Common.{Option, Some, None, option_map}
 use Rattle.basics.specs.Pick.{when}
 use Rattle.pool.specs.declared.Pool.{Pool}
 use Rattle.rules.specs.Calls.{Call, call, after, seen}
 use Rattle.grammar.specs.declared.Line.{Line}
-use Rattle.grammar.specs.declared.Line.TheVariants.{Make, Take, Hire, Fire, Post, Give, Ask, Step, Repeat, End, Wrong}
+use Rattle.grammar.specs.declared.Line.TheVariants.{Make, Take, Hire, Fire, Post, Give, Ask, Step, Repeat, End}
 use Rattle.grammar.specs.declared.Kind.{Kind}
 use Rattle.grammar.specs.declared.Kind.TheVariants as are
 use Rattle.grammar.specs.Line.{line_of, numbers_at, kind, kind_of}
@@ -19,29 +20,29 @@ use Rattle.player.specs.Turns.{Deed, makes, calls, deed_of, deed_at, Played, tur
 use Rattle.player.specs.Transcript.{call_in, unrolled, printed_from, played_from, transcript, turns_from}
 
 -- what a line does that makes the pool, and one that is a call
-abbrev Does : Kind → Line → Deed → Type 0
-Does are.Make l d = (w : ℕ) × (g : ℕ) × (b : ℕ) × ((l ≡ Make w g b) × (d ≡ makes w g b))
-Does are.Call l d = (c : Call) × (d ≡ calls c)
-Does (are.Repeat n) l d = Unit {0}
-Does are.End l d = Unit {0}
-Does are.Wrong l d = Unit {0}
+abbrev Does : Option Kind → Option Line → Deed → Type 0
+Does (Some are.Make) l d = (w : ℕ) × (g : ℕ) × (b : ℕ) × ((l ≡ Some (Make w g b)) × (d ≡ makes w g b))
+Does (Some are.Call) l d = (c : Call) × (d ≡ calls c)
+Does (Some (are.Repeat n)) l d = Unit {0}
+Does (Some are.End) l d = Unit {0}
+Does None l d = Unit {0}
 
-does : (l : Line) (ns : List ℕ) → Does (kind l) l (deed_of l ns)
-does (Make w g b) ns = (w, g, b, (refl, refl))
-does (Take b) ns = (_, refl)
-does (Hire w) ns = (_, refl)
-does (Fire w g) ns = (_, refl)
-does (Post w g b) ns = (_, refl)
-does (Give w) ns = (_, refl)
-does (Ask w b) ns = (_, refl)
-does (Step w) ns = (_, refl)
-does (Repeat n) ns = tt
-does End ns = tt
-does Wrong ns = tt
+does : (l : Option Line) (ns : List ℕ) → Does (option_map kind l) l (deed_of l ns)
+does (Some (Make w g b)) ns = (w, g, b, (refl, refl))
+does (Some (Take b)) ns = (_, refl)
+does (Some (Hire w)) ns = (_, refl)
+does (Some (Fire w g)) ns = (_, refl)
+does (Some (Post w g b)) ns = (_, refl)
+does (Some (Give w)) ns = (_, refl)
+does (Some (Ask w b)) ns = (_, refl)
+does (Some (Step w)) ns = (_, refl)
+does (Some (Repeat n)) ns = tt
+does (Some End) ns = tt
+does None ns = tt
 
-does_at : (s : List ℕ) (at : ℕ) (k : Kind) → kind_of s at ≡ k → Does k (line_of s at) (deed_at s at)
+does_at : (s : List ℕ) (at : ℕ) (k : Option Kind) → kind_of s at ≡ k → Does k (line_of s at) (deed_at s at)
 unfolding kind_of deed_at
-does_at s at k e = subst (λ (x : Kind). Does x (line_of s at) (deed_of (line_of s at) (numbers_at s at))) e (does (line_of s at) (numbers_at s at))
+does_at s at k e = subst (λ (x : Option Kind). Does x (line_of s at) (deed_of (line_of s at) (numbers_at s at))) e (does (line_of s at) (numbers_at s at))
 
 turn_is : (s : List ℕ) (at k : ℕ) (p : Pool) (d : Deed) → length s ≤ 16384 → at ≤ length s → deed_at s at ≡ d → turn_at s at k p ≡ turn_of d k p
 unfolding turn_at when
@@ -81,7 +82,7 @@ calls_play : (s places : List ℕ) → length s ≤ 16384 → CallsAt s places �
 unfolding CallsAt
 calls_play s [] short h k p = none_plays s k p
 calls_play s (at ∷ places) short h k p =
-    let d = does_at s at are.Call h.1 in
+    let d = does_at s at (Some are.Call) h.1 in
     call_plays s at places d.0 k p short h.0 d.1 (calls_play s places short h.2 (k + 1) (call d.0 p).pool)
 
 -- ---- the whole text, from any record
@@ -109,8 +110,8 @@ module _ (s places : List ℕ) (e : read_of s ≡ reading places) where
   abbrev facts : Faultless s places
   facts = faultless s places e
 
-  pub making : (w : ℕ) × (g : ℕ) × (b : ℕ) × ((line_of s 0 ≡ Make w g b) × (deed_at s 0 ≡ makes w g b))
-  making = does_at s 0 are.Make facts.making
+  pub making : (w : ℕ) × (g : ℕ) × (b : ℕ) × ((line_of s 0 ≡ Some (Make w g b)) × (deed_at s 0 ≡ makes w g b))
+  making = does_at s 0 (Some are.Make) facts.making
 
   pub transcript_is : transcript s ≡ played_from (unrolled s places) (deed_at s 0)
   unfolding transcript

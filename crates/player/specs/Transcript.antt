@@ -1,13 +1,13 @@
 -- What the program prints for any bytes whatever.
-use Rattle.std.specs.Prelude.{ℕ, ◌+◌, List, [], ◌∷◌, ◌++◌}
+use Rattle.std.specs.Prelude.{ℕ, ◌+◌, List, [], ◌∷◌, ◌++◌, Result, Ok, Err}
 use Rattle.tables.specs.Bytes.{bytes}
 use Rattle.pool.specs.declared.Pool.{Pool}
 use Rattle.pool.specs.Record.{blank}
 use Rattle.rules.specs.Calls.{Call, Seen, seen}
 use Rattle.printed.specs.Printed.{decimal, line_for}
 use Rattle.schedule.specs.Read.{Reading, too_long, bad_line, calls, read_of}
-use Rattle.schedule.specs.declared.Read.{Read}
-use Rattle.schedule.specs.declared.Read.TheVariants.{TooLong, BadLine, Calls}
+use Rattle.schedule.specs.declared.Unread.{Unread}
+use Rattle.schedule.specs.declared.Unread.TheVariants.{TooLong, BadLine}
 use Rattle.player.specs.Turns.{Deed, makes, calls as calling, nothing, deed_at, Played, turn_of, turn_at}
 
 -- the calls of the lines at some places; the making is none of them
@@ -56,7 +56,7 @@ turns_from s k (at ∷ places) p =
 
 -- ---- in the code
 
-abbrev pub judgement : Read → List ℕ
-judgement TooLong = too_long_bytes
-judgement (BadLine l) = bad_line_bytes l
-judgement (Calls n) = []
+abbrev pub judgement : Result ℕ Unread → List ℕ
+judgement (Ok n) = []
+judgement (Err TooLong) = too_long_bytes
+judgement (Err (BadLine l)) = bad_line_bytes l

@@ -1,12 +1,13 @@
 -- What a line does, and what is printed of it.
-use Rattle.std.specs.Prelude.{ℕ, List, [], length, drop, replicate, ltb}
+use Rattle.std.specs.Prelude.{◌≡◌, ℕ, ◌≤◌, List, [], length, drop, replicate, ltb, Option, Some, None}
 use Rattle.basics.specs.Pick.{when}
+use Rattle.tables.specs.Write.{write_at}
 use Rattle.pool.specs.declared.Pool.{Pool}
 use Rattle.pool.specs.Answers.{Told}
 use Rattle.pool.specs.Make.{make_of}
 use Rattle.rules.specs.Calls.{Call, hiring, firing, posting, giving_up, taking, asking, advancing, call, list_of}
 use Rattle.grammar.specs.declared.Line.{Line}
-use Rattle.grammar.specs.declared.Line.TheVariants.{Make, Take, Hire, Fire, Post, Give, Ask, Step, Repeat, End, Wrong}
+use Rattle.grammar.specs.declared.Line.TheVariants.{Make, Take, Hire, Fire, Post, Give, Ask, Step, Repeat, End}
 use Rattle.grammar.specs.Line.{line_of, numbers_at}
 use Rattle.printed.specs.Printed.{line_for}
 use Rattle.player.specs.declared.Turn.{Turn}
@@ -17,19 +18,19 @@ pub data Deed : Type 0 where
   calls : Call → Deed
   nothing : Deed
 
--- by a line and its numbers: those of `give` are the worker and the ids; each step lends 256 ids
-abbrev pub deed_of : Line → List ℕ → Deed
-deed_of (Make w g b) ns = makes w g b
-deed_of (Take b) ns = calls (taking b)
-deed_of (Hire w) ns = calls (hiring w)
-deed_of (Fire w g) ns = calls (firing w g)
-deed_of (Post w g b) ns = calls (posting w g b)
-deed_of (Give w) ns = calls (giving_up w (drop 1 ns))
-deed_of (Ask w b) ns = calls (asking w b)
-deed_of (Step w) ns = calls (advancing w (replicate 256 0))
-deed_of (Repeat n) ns = nothing
-deed_of End ns = nothing
-deed_of Wrong ns = nothing
+-- by a line, if it is lawful, and its numbers: those of `give` are the worker and the ids; each step lends 256 ids
+abbrev pub deed_of : Option Line → List ℕ → Deed
+deed_of (Some (Make w g b)) ns = makes w g b
+deed_of (Some (Take b)) ns = calls (taking b)
+deed_of (Some (Hire w)) ns = calls (hiring w)
+deed_of (Some (Fire w g)) ns = calls (firing w g)
+deed_of (Some (Post w g b)) ns = calls (posting w g b)
+deed_of (Some (Give w)) ns = calls (giving_up w (drop 1 ns))
+deed_of (Some (Ask w b)) ns = calls (asking w b)
+deed_of (Some (Step w)) ns = calls (advancing w (replicate 256 0))
+deed_of (Some (Repeat n)) ns = nothing
+deed_of (Some End) ns = nothing
+deed_of None ns = nothing
 
 unfoldable pub deed_at : List ℕ → ℕ → Deed
 deed_at s at = deed_of (line_of s at) (numbers_at s at)
@@ -58,3 +59,9 @@ turn_at s at k p =
 
 abbrev pub turned : Played → Turn
 turned t = record { pool = t.pool; written = length t.bytes }
+
+-- r is what was played, its bytes stand at the start of u, which was t, and they are no more than a line's
+pub record Shows (x : Played) (r : Turn) (t u : List ℕ) : Type 0 where
+  pub value : r ≡ turned x
+  pub out_after : u ≡ write_at t 0 x.bytes
+  pub written_bound : r.written ≤ 8192

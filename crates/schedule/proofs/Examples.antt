@@ -1,16 +1,14 @@
 -- The worked examples of what a text is read as. Assumes nothing.
 use mathlib.Core.Path.{refl}
 use Rattle.basics.specs.Pick.{when}
-use Rattle.basics.specs.Below.{count_below}
-use Rattle.grammar.specs.Line.{stop_from, stop_of, after_of, verb_of, guard_verb, buffer_verb, block_verb, line_of, kind_of}
-use Rattle.grammar.specs.Words.{span, words, same, digits, value, unpadded, number_of, numbers_of, all_numbers}
-use Rattle.tables.specs.Write.{copies}
-use Rattle.schedule.specs.Text.{lower, end_from, end_of, block_of, block_at}
+use Rattle.grammar.specs.Line.{stop_of, after_of, line_of, kind_of}
+use Rattle.grammar.specs.Words.{words, digits, value, unpadded, number_of, numbers_of, all_numbers}
+use Rattle.schedule.specs.Text.{end_from, end_of, block_of, block_at}
 use Rattle.schedule.specs.Read.{line_number, read_of}
 use Rattle.schedule.specs.Examples.{Examples}
 
 pub examples : Examples
-unfolding when count_below stop_from stop_of after_of verb_of guard_verb buffer_verb block_verb line_of kind_of span words same digits value unpadded number_of numbers_of all_numbers copies lower end_from end_of block_of block_at line_number read_of
+unfolding when stop_of after_of line_of kind_of words digits value unpadded number_of numbers_of all_numbers end_from end_of block_of block_at line_number read_of
 examples =
     record {
       request = refl;

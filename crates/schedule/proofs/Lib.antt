@@ -1,7 +1,5 @@
 pub mod Falls
-pub mod Arms
 pub mod Seek
-pub mod Counts
 pub mod Blocks
 pub mod Turns
 pub mod Puts

@@ -1,18 +1,12 @@
 -- Laws of `end_of`: the fuel does not matter, and a turn of the loop that seeks it. Assumes nothing.
-use Prim.Native.Nat.{ℕ, zero, suc, ◌+◌, ◌-◌, ◌≤◌, ◌<◌}
-use native.Mathlib.Omega.{arith}
-use mathlib.Core.Path.{◌≡◌, refl, ap, sym, ◌∙◌}
-use mathlib.Core.List.{List}
-use mathlib.Core.Bool.{Bool, true, false, ◌&&◌}
-use lib.ListN.{length}
-use lib.Dec.{eqb, leb}
-use borrow.Author.Tests.{le-leb, lt-leb, leb-false}
+use Rattle.std.proofs.Common.{◌≡◌, ℕ, zero, suc, ◌+◌, ◌-◌, ◌≤◌, ◌<◌, List, length, Bool, true, false, ◌&&◌, eqb, leb, Option, Some, None, ◌⊎◌, inl, inr, refl, ap, sym, ◌∙◌, arith}
+use borrow.Author.Tests.{le-leb, lt-leb, leb-false, ne_eqb}
 use Rattle.basics.specs.Pick.{when}
 use Rattle.basics.proofs.Picks.{when_both}
 use Rattle.grammar.specs.Line.{after_of, kind_of}
 use Rattle.grammar.specs.declared.Kind.{Kind}
-use Rattle.grammar.specs.declared.Kind.TheVariants.{Make, Call, Repeat, End, Wrong}
-use Rattle.grammar.proofs.Laws.{after_more, after_within}
+use Rattle.grammar.specs.declared.Kind.TheVariants.{Make, Call, Repeat, End}
+use Rattle.grammar.proofs.Laws.{after_more, after_within, after_end}
 use Rattle.schedule.specs.Text.{is_end, open_after, end_from, end_of}
 
 -- two choices by one test, whose second arms agree where they are taken
@@ -22,12 +16,12 @@ module _ {A : Type 0} where
   when_cong true x y z h = refl
   when_cong false x y z h = h refl
 
-pub open_le : (k : Kind) (m i j : ℕ) → m ≤ i → i < j → open_after k m ≤ j
-open_le Make m i j h l = omega arith
-open_le Call m i j h l = omega arith
-open_le (Repeat n) m i j h l = omega arith
-open_le End m i j h l = omega arith
-open_le Wrong m i j h l = omega arith
+open_le : (k : Option Kind) (m i j : ℕ) → m ≤ i → i < j → open_after k m ≤ j
+open_le None m i j h l = omega arith
+open_le (Some Make) m i j h l = omega arith
+open_le (Some Call) m i j h l = omega arith
+open_le (Some (Repeat n)) m i j h l = omega arith
+open_le (Some End) m i j h l = omega arith
 
 end_fuel : (k j : ℕ) (s : List ℕ) (i m : ℕ) → i ≤ length s → length s ≤ i + k → length s ≤ i + j → end_from k s i m ≡ end_from j s i m
 unfolding end_from when
@@ -53,11 +47,11 @@ unfolding end_of
 end_of_within s i m w = end_within (length s - i) s i m w
 
 module _ (s : List ℕ) (i m : ℕ) where
-  pub end_here : i < length s → (is_end (kind_of s i) && eqb m 0) ≡ true → i ≡ end_of s i m
+  end_here : i < length s → (is_end (kind_of s i) && eqb m 0) ≡ true → i ≡ end_of s i m
   unfolding end_of end_from when
   end_here l e = sym (end_fuel (length s - i) (suc (length s - i)) s i m (omega arith) (omega arith) (omega arith) ∙ rw (lt-leb (length s) i l, e))
 
-  pub end_on : i < length s → (is_end (kind_of s i) && eqb m 0) ≡ false → end_of s (after_of s i) (open_after (kind_of s i) m) ≡ end_of s i m
+  end_on : i < length s → (is_end (kind_of s i) && eqb m 0) ≡ false → end_of s (after_of s i) (open_after (kind_of s i) m) ≡ end_of s i m
   unfolding end_of end_from when
   end_on l e =
       let w = after_within s i (omega arith) in
@@ -65,23 +59,26 @@ module _ (s : List ℕ) (i m : ℕ) where
       sym (end_fuel (length s - i) (suc (length s - (i + 1))) s i m (omega arith) (omega arith) (omega arith)
       ∙ (rw (lt-leb (length s) i l, e) (end_fuel (length s - (i + 1)) (length s - after_of s i) s (after_of s i) (open_after (kind_of s i) m) w (omega arith) (omega arith))))
 
-  pub end_none : length s ≤ i → i ≡ end_of s i m
+  end_none : length s ≤ i → i ≡ end_of s i m
   unfolding end_of end_from
   end_none l = let z : length s - i ≡ 0 = omega arith in rw z
 
--- what the loop goes by, in the words of the calls' answers
-module _ (s : List ℕ) (i m : ℕ) (k : Kind) (r : Bool) (e : ℕ) (l : i < length s) (p : k ≡ kind_of s i) (q : r ≡ (is_end k && eqb m 0)) (h : end_of s i m ≡ e) where
-  same : (is_end (kind_of s i) && eqb m 0) ≡ r
-  same = ap (λ (k : Kind). is_end k && eqb m 0) (sym p) ∙ sym q
+-- what the loop goes by: the end sought, e, is the same from each place passed, with the blocks open there
+module _ (s : List ℕ) (i m e : ℕ) (h : end_of s i m ≡ e) where
+  pub seek_none : length s ≤ i → i ≤ length s → i ≡ after_of s e
+  seek_none l w = let z : i ≡ length s = omega arith in rw (← h, ← end_none s i m l, z) (sym (after_end s))
 
-  pub seek_here : r ≡ true → i ≡ e
-  seek_here t = end_here s i m l (same ∙ t) ∙ h
+  -- the line at i is of the kind k, and r says whether it is an `end`
+  module _ (l : i < length s) (k : Option Kind) (r : Bool) (p : k ≡ kind_of s i) (q : r ≡ is_end k) where
+    pub seek_here : (n : ℕ) → r ≡ true → m ≡ 0 → n ≡ after_of s i → n ≡ after_of s e
+    seek_here n t z a = a ∙ ap (after_of s) (end_here s i m l (rw (← p, ← q, t, z)) ∙ h)
 
-  pub seek_on : (n j : ℕ) → r ≡ false → n ≡ open_after k m → j ≡ after_of s i → end_of s j n ≡ e
-  seek_on n j t a b = rw (a, b, p) (end_on s i m l (same ∙ t) ∙ h)
-
-  pub seek_within : (j : ℕ) → j ≡ after_of s i → (i < j) × (j ≤ length s)
-  seek_within j b = omega (arith, b, after_more s i l, after_within s i (omega arith))
-
-  pub seek_opens : (n j : ℕ) → m ≤ i → n ≡ open_after k m → j ≡ after_of s i → n ≤ j
-  seek_opens n j w a b = rw (a, b) (open_le k m i (after_of s i) w (after_more s i l))
+    pub seek_on : (j n : ℕ) → ((r ≡ true) × (m ≡ 0 → ⊥)) ⊎ (r ≡ false) → j ≡ after_of s i → n ≡ open_after k m → m ≤ i → (i < j) × (j ≤ length s) × (n ≤ j) × (end_of s j n ≡ e)
+    seek_on j n t a b w =
+        let o = after_more s i l in
+        let f : is_end (kind_of s i) && eqb m 0 ≡ false = rw (← p, ← q) (other t) in
+        rw (a, b, p) (o, after_within s i (omega arith), open_le (kind_of s i) m i (after_of s i) w o, end_on s i m l f ∙ h)
+      where
+        other : ((r ≡ true) × (m ≡ 0 → ⊥)) ⊎ (r ≡ false) → r && eqb m 0 ≡ false
+        other (inl (t, n)) = rw (t, ne_eqb m 0 n)
+        other (inr t) = rw t

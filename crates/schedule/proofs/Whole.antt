@@ -1,120 +1,115 @@
 -- What the whole text is read as, in the words of the calls' answers. Assumes nothing.
-use Prim.Native.Nat.{ℕ, suc, ◌+◌, ◌≤◌, ◌<◌}
-use native.Mathlib.Omega.{arith}
-use mathlib.Core.Path.{◌≡◌, refl, ap, sym, ◌∙◌}
-use mathlib.Core.List.{List, ◌∷◌}
-use mathlib.Core.Bool.{Bool, true, false, not}
-use lib.ListN.{length, get_or, set, length-set}
-use lib.Dec.{eqb}
-use borrow.Author.Tests.{lt-ltb, le-ltb, not-true, not-false}
+use Rattle.std.proofs.Common.{◌≡◌, ◌-◌, ◌+◌, ℕ, suc, ◌≤◌, ◌<◌, List, length, set, Bool, true, false, not, ltb, Option, Some, None, Ok, Err, refl, ap, sym, ◌∙◌, subst, arith, length-drop}
+use Rattle.std.proofs.lemmas.List.{length-set, take_rest}
+use borrow.Rule.Slice.PartMut.{mid_of, put_mid}
+use Rattle.std.specs.Bool.{then_some}
+use Rattle.std.specs.Option.{option_or}
+use borrow.Author.Tests.{lt-ltb, le-ltb, ltb-true, not-true, not-false}
 use Rattle.basics.specs.Pick.{when}
-use Rattle.basics.specs.Below.{count_below, one}
-use Rattle.basics.proofs.Count.{count_again, count_le, one_le}
-use Rattle.basics.proofs.Truth.{by_order}
 use Rattle.grammar.specs.Line.{after_of, kind_of}
 use Rattle.grammar.specs.declared.Kind.{Kind}
 use Rattle.grammar.proofs.Laws.{after_within}
 use Rattle.tables.specs.Write.{write_at}
-use Rattle.tables.proofs.Laws.{write_cons}
+use Rattle.tables.proofs.Laws.{write_cons, write_rest}
 use Rattle.schedule.specs.declared.Got.{Got}
 use Rattle.schedule.specs.declared.Put.{Put}
-use Rattle.schedule.specs.declared.Read.{Read}
-use Rattle.schedule.specs.declared.Read.TheVariants.{TooLong, BadLine, Calls}
-use Rattle.schedule.specs.Text.{Ready, lower, block_at, cap, tell, put}
-use Rattle.schedule.specs.Read.{Reading, too_long, bad_line, calls, is_make, line_number, judged, read_of, answered, filled}
-use Rattle.schedule.proofs.Counts.{cap_small, cap_full, lower_least}
-use Rattle.schedule.proofs.Blocks.{at_within}
+use Rattle.schedule.specs.declared.Unread.{Unread}
+use Rattle.schedule.specs.declared.Unread.TheVariants.{TooLong, BadLine}
+use Rattle.schedule.specs.Text.{Block, Ready, lower, block_at, tell, put}
+use Rattle.schedule.specs.Read.{is_make, line_number, stray_end, judged, read_of, Playable, answered, filled}
+use Rattle.schedule.proofs.Blocks.{Among, among_both, at_within, lower_in_order}
+use Rattle.schedule.proofs.Puts.{no_fault}
 
--- the count of newlines, a turn more
-pub lines_first : (s : List ℕ) → 1 ≡ line_number s 0
-unfolding line_number count_below
-lines_first s = refl
+-- ---- which text is played
 
-pub lines_on : (s : List ℕ) (i n k : ℕ) → n ≡ line_number s i → k ≡ one (eqb (get_or s i 0) 10) → n + k ≡ line_number s (i + 1)
-unfolding line_number
-lines_on s i n k h e = omega (arith, h, e, count_again i (λ i. eqb (get_or s i 0) 10))
+module _ (s : List ℕ) where
+  abbrev Refused : Unread → Type 0
+  Refused e = answered (read_of s) ≡ Err e
 
-pub lines_le : (s : List ℕ) (i n : ℕ) → n ≡ line_number s i → n ≤ i + 1
-unfolding line_number
-lines_le s i n h = omega (arith, h, count_le i (λ i. eqb (get_or s i 0) 10))
-
-pub newline_le : (k b : ℕ) → k ≡ one (eqb b 10) → k ≤ 1
-newline_le k b e = omega (arith, e, one_le (eqb b 10))
-
-pub lines_done : (s : List ℕ) (i p n : ℕ) → n ≡ line_number s i → i ≡ p → n ≡ line_number s p
-lines_done s i p n h e = cc
-
-module _ (s : List ℕ) (t : List ℕ) where
-  abbrev Meets : Read → List ℕ → Type 0
-  Meets r u = (r ≡ answered (read_of s)) × (u ≡ filled (read_of s) t)
-
-  told : (x : Reading) → read_of s ≡ x → Meets (answered x) (filled x t)
-  told x e = rw e (refl, refl)
-
-  long : 16384 < length s → read_of s ≡ too_long
+  pub read_long : 16384 < length s → Refused TooLong
   unfolding read_of when
-  long h = rw (lt-ltb 16384 (length s) h)
+  read_long h = rw (lt-ltb 16384 (length s) h)
 
-  pub read_long : 16384 < length s → Meets TooLong t
-  read_long h = told too_long (long h)
-
-  module _ (w : length s ≤ 16384) (kd : Kind) (r : Bool) (p : kd ≡ kind_of s 0) (q : r ≡ is_make kd) where
-    first : not r ≡ true → read_of s ≡ bad_line 1
+  -- k is the kind of line 1, and r says whether it is no making
+  module _ (w : length s ≤ 16384) (k : Option Kind) (r : Bool) (p : k ≡ kind_of s 0) (q : r ≡ not (is_make k)) where
+    pub read_first : r ≡ true → Refused (BadLine 1)
     unfolding read_of when
-    first e = rw (le-ltb 16384 (length s) w, ← p, ← q, not-true r e)
+    read_first e = rw (le-ltb 16384 (length s) w, ← p, not-true (is_make k) (sym q ∙ e))
 
-    pub read_first : not r ≡ true → Meets (BadLine 1) t
-    read_first e = told (bad_line 1) (first e)
+    module _ (e : r ≡ false) (n : ℕ) (v : n ≡ after_of s 0) where
+      abbrev rest : Block
+      rest = block_at s n 4
 
-    module _ (e : not r ≡ false) (n : ℕ) (v : n ≡ after_of s 0) where
-      body : read_of s ≡ judged s (block_at s n 4)
+      body : read_of s ≡ judged s rest
       unfolding read_of when
-      body = rw (le-ltb 16384 (length s) w, ← p, ← q, not-false r e, v)
+      body = rw (le-ltb 16384 (length s) w, ← p, not-false (is_make k) (sym q ∙ e), v)
 
       pub start_within : n ≤ length s
       start_within = rw v (after_within s 0 (omega arith))
 
-      module _ (g : Got) (f : ℕ) (a : g ≡ tell (block_at s n 4)) (b : f ≡ lower g.fault g.next) where
-        lowest : f ≡ lower (block_at s n 4).fault (block_at s n 4).next
-        lowest = b ∙ ap (λ (x : Got). lower x.fault x.next) a
+      -- o is the lowest line at fault, if there is one
+      module _ (g : Got) (o : Option ℕ) (a : g ≡ tell rest) (b : o ≡ option_or g.fault (then_some (ltb g.next (length s)) g.next)) where
+        rest_within : (n ≤ rest.next) × (rest.next ≤ length s) × Among n rest.next rest.fault
+        rest_within = at_within s n 4 start_within
 
-        count : g.calls ≡ cap (length (block_at s n 4).calls)
-        count = ap (λ (x : Got). x.calls) a
+        stray_among : (t : Bool) → ltb rest.next (length s) ≡ t → Among rest.next (length s) (then_some t rest.next)
+        stray_among true h = let l = ltb-true rest.next (length s) h in omega arith
+        stray_among false h = tt
 
-        bad : f < length s → read_of s ≡ bad_line (line_number s f)
-        unfolding when
-        bad l = body ∙ rw (← lowest, lt-ltb f (length s) l)
+        stray : Among rest.next (length s) (stray_end s rest)
+        stray = stray_among (ltb rest.next (length s)) refl
 
-        pub read_bad : (m : ℕ) → f < length s → m ≡ line_number s f → Meets (BadLine m) t
-        read_bad m l h = rw h (told (bad_line (line_number s f)) (bad l))
+        lowest : o ≡ lower rest.fault (stray_end s rest)
+        lowest = b ∙ (ap (λ (x : Got). option_or x.fault (then_some (ltb x.next (length s)) x.next)) a ∙ sym (lower_in_order n rest.next (length s) rest.fault (stray_end s rest) rest_within.2 stray))
 
-        module _ (l : length s ≤ f) where
-          large : 100000 ≤ g.calls → 100000 < suc (length (block_at s n 4).calls)
-          large h = by_order (length (block_at s n 4).calls) 100001 (λ o. omega (arith, count, cap_small (length (block_at s n 4).calls) o)) (λ o. omega arith)
+        pub fault_within : (f : ℕ) → o ≡ Some f → f ≤ length s
+        fault_within f h = omega (arith, subst (Among n (length s)) (sym lowest ∙ h) (among_both n rest.next (length s) rest.fault (stray_end s rest) rest_within.0 rest_within.1 rest_within.2 stray))
 
-          many : 100000 ≤ g.calls → read_of s ≡ too_long
+        pub read_bad : (f m : ℕ) → o ≡ Some f → m ≡ line_number s f → Refused (BadLine m)
+        read_bad f m h y = rw (y, body, ← lowest, h)
+
+        module _ (l : o ≡ None) where
+          none : lower rest.fault (stray_end s rest) ≡ None
+          none = sym lowest ∙ l
+
+          pub read_many : 100000 ≤ g.calls → Refused TooLong
           unfolding when
-          many h = body ∙ rw (← lowest, le-ltb f (length s) l, lt-ltb 100000 (suc (length (block_at s n 4).calls)) (large h))
+          read_many h = rw (body, none, lt-ltb 100000 (suc (length rest.calls)) (omega (arith, ap (λ (x : Got). x.calls) a)))
 
-          pub read_many : 100000 ≤ g.calls → Meets TooLong t
-          read_many h = told too_long (many h)
+          pub playable : g.calls < 100000 → Playable s n
+          unfolding when
+          playable h =
+              let few : length rest.calls < 100000 = omega (arith, ap (λ (x : Got). x.calls) a) in
+              record {
+                short = w;
+                start = v;
+                sound = (no_fault rest.fault (stray_end s rest) none).0;
+                few = few;
+                read = body ∙ rw (none, le-ltb 100000 (suc (length rest.calls)) (omega arith));
+              }
 
-          module _ (h : g.calls < 100000) where
-            few : length (block_at s n 4).calls < 100000
-            few = by_order (length (block_at s n 4).calls) 100001 (λ o. omega (arith, count, cap_small (length (block_at s n 4).calls) o)) (λ o. absurd (omega (arith, count, cap_full (length (block_at s n 4).calls) (omega arith))))
+-- ---- what is written of it
 
-            pub read_ready : 100000 ≤ length t → Ready s (block_at s n 4) (set t 0 0) 1
-            read_ready o =
-                record {
-                  short = w;
-                  sound = omega (arith, lowest, lower_least (block_at s n 4).fault (block_at s n 4).next, at_within s n 4 start_within);
-                  room = omega (arith, few, length-set t 0 0);
-                }
+module _ (s t : List ℕ) (n : ℕ) (k : Playable s n) where
+  pub start_in : n ≤ length s
+  start_in = rw k.start (after_within s 0 (omega arith))
 
-            all : read_of s ≡ calls (0 ∷ (block_at s n 4).calls)
-            unfolding when
-            all = body ∙ rw (← lowest, le-ltb f (length s) l, le-ltb 100000 (suc (length (block_at s n 4).calls)) (omega (arith, few)))
+  -- m entries of the table t follow the first, which is written
+  module _ (m : ℕ) (e : length t ≡ m + 1) where
+    others : m ≡ length (set t 0 0) - 1
+    others = omega (arith, e, length-set t 0 0)
 
-            pub read_calls : (y : Put) (u : List ℕ) → y ≡ put (block_at s n 4) 1 → u ≡ write_at (set t 0 0) 1 (block_at s n 4).calls → Meets (Calls y.upto) u
-            read_calls y u c d =
-                rw (c, d, all) (ap Calls (omega arith), sym (write_cons t 0 0 (block_at s n 4).calls))
+    pub write_ready : 99999 ≤ m → Ready s (block_at s n 4) (mid_of 1 m (set t 0 0))
+    write_ready h =
+        record {
+          short = k.short;
+          sound = k.sound;
+          room = rw (others, take_rest (set t 0 0) 1) (omega (arith, k.few, length-drop 1 (set t 0 0), length-set t 0 0));
+        }
+
+    pub written : (y : Put) (u : List ℕ) → 99999 ≤ m → y ≡ put (block_at s n 4) → u ≡ write_at (mid_of 1 m (set t 0 0)) 0 (block_at s n 4).calls
+        → (Ok (1 + y.written) ≡ answered (read_of s)) × (put_mid 1 m (set t 0 0) u ≡ filled (read_of s) t)
+    written y u h c d =
+        let calls = (block_at s n 4).calls in
+        let all : put_mid 1 m (set t 0 0) u ≡ write_at (set t 0 0) 1 calls = rw others (write_rest (set t 0 0) u 1 calls (omega (arith, k.few, e, length-set t 0 0)) (rw others at d)) in
+        rw (c, k.read) (ap Ok (omega arith), all ∙ sym (write_cons t 0 0 calls))

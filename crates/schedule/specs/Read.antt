@@ -1,14 +1,14 @@
 -- What a text is read as: too long, its lowest line at fault, or its calls, unrolled.
-use Rattle.std.specs.Prelude.{ℕ, ◌+◌, ◌≤◌, ◌≡◌, List, [], ◌∷◌, Bool, true, false, length, get_or, eqb, ltb}
+use Rattle.std.specs.Prelude.{ℕ, ◌+◌, ◌≤◌, ◌<◌, ◌≡◌, List, [], ◌∷◌, Bool, true, false, length, take, eqb, ltb, count_by, Option, Some, None, Result, Ok, Err}
+use Rattle.std.specs.Bool.{then_some}
 use Rattle.basics.specs.Pick.{when}
-use Rattle.basics.specs.Below.{count_below}
 use Rattle.grammar.specs.Line.{after_of, kind_of}
 use Rattle.grammar.specs.declared.Kind.{Kind}
-use Rattle.grammar.specs.declared.Kind.TheVariants.{Make, Call, Repeat, End, Wrong}
+use Rattle.grammar.specs.declared.Kind.TheVariants.{Make, Call, Repeat, End}
 use Rattle.tables.specs.Write.{write_at}
 use Rattle.schedule.specs.Text.{Block, lower, block_at}
-use Rattle.schedule.specs.declared.Read.{Read}
-use Rattle.schedule.specs.declared.Read.TheVariants.{TooLong, BadLine, Calls}
+use Rattle.schedule.specs.declared.Unread.{Unread}
+use Rattle.schedule.specs.declared.Unread.TheVariants.{TooLong, BadLine}
 
 -- each call is named by the place of its line
 pub data Reading : Type 0 where
@@ -16,26 +16,31 @@ pub data Reading : Type 0 where
   bad_line : ℕ → Reading
   calls : List ℕ → Reading
 
-abbrev pub is_make : Kind → Bool
-is_make Make = true
-is_make Call = false
-is_make (Repeat n) = false
-is_make End = false
-is_make Wrong = false
+abbrev pub is_make : Option Kind → Bool
+is_make None = false
+is_make (Some Make) = true
+is_make (Some Call) = false
+is_make (Some (Repeat n)) = false
+is_make (Some End) = false
 
 -- the number of the line at place p
 unfoldable pub line_number : List ℕ → ℕ → ℕ
-line_number s p = count_below p (λ i. eqb (get_or s i 0) 10) + 1
+line_number s p = count_by (λ b. eqb b 10) (take p s) + 1
 
 abbrev pub limited : List ℕ → Reading
 limited l = when (ltb 100000 (length l)) too_long (calls l)
 
--- a text whose line 1 is a making, given the lines after it; where these stop before the text's end, there is an `end` too many
+abbrev pub judged_by : Option ℕ → List ℕ → List ℕ → Reading
+judged_by (Some at) s l = bad_line (line_number s at)
+judged_by None s l = limited l
+
+-- where the lines after the first stop before the text's end, there is an `end` too many
+abbrev pub stray_end : List ℕ → Block → Option ℕ
+stray_end s b = then_some (ltb b.next (length s)) b.next
+
+-- a text whose line 1 is a making, given the lines after it
 abbrev pub judged : List ℕ → Block → Reading
-judged s b =
-    when (ltb (lower b.fault b.next) (length s))
-    (bad_line (line_number s (lower b.fault b.next)))
-    (limited (0 ∷ b.calls))
+judged s b = judged_by (lower b.fault (stray_end s b)) s (0 ∷ b.calls)
 
 unfoldable pub read_of : List ℕ → Reading
 read_of s =
@@ -47,11 +52,11 @@ read_of s =
 
 unfoldable pub CallsAt : List ℕ → List ℕ → Type 0
 CallsAt s [] = Unit
-CallsAt s (at ∷ places) = (at ≤ length s) × (kind_of s at ≡ Call) × CallsAt s places
+CallsAt s (at ∷ places) = (at ≤ length s) × (kind_of s at ≡ Some Call) × CallsAt s places
 
 pub record Faultless (s : List ℕ) (places : List ℕ) : Type 0 where
   pub short : length s ≤ 16384
-  pub making : kind_of s 0 ≡ Make
+  pub making : kind_of s 0 ≡ Some Make
   pub rest : List ℕ
   pub first : places ≡ 0 ∷ rest
   pub others : CallsAt s rest
@@ -60,12 +65,20 @@ pub record Faultless (s : List ℕ) (places : List ℕ) : Type 0 where
 -- ---- in the code
 
 -- what the code answers, and what it leaves in the table: the calls' places, or what was there
-abbrev pub answered : Reading → Read
-answered too_long = TooLong
-answered (bad_line n) = BadLine n
-answered (calls l) = Calls (length l)
+abbrev pub answered : Reading → Result ℕ Unread
+answered too_long = Err TooLong
+answered (bad_line n) = Err (BadLine n)
+answered (calls l) = Ok (length l)
 
 abbrev pub filled : Reading → List ℕ → List ℕ
 filled too_long t = t
 filled (bad_line n) t = t
 filled (calls l) t = write_at t 0 l
+
+-- what the code knows of a text that is read as calls, whose line 2 starts at n
+pub record Playable (s : List ℕ) (n : ℕ) : Type 0 where
+  pub short : length s ≤ 16384
+  pub start : n ≡ after_of s 0
+  pub sound : (block_at s n 4).fault ≡ None
+  pub few : length (block_at s n 4).calls < 100000
+  pub read : read_of s ≡ calls (0 ∷ (block_at s n 4).calls)

@@ -1,260 +1,238 @@
 // A schedule's text: a block holds lines, and a line may open a block. The block reader and the line reader call each other.
 #![tactic(auto)]
 
-ghost use Rattle.std.specs.Prelude.{◌≡◌, ◌+◌, ◌*◌, ◌-◌, ◌≤◌, ◌<◌, ◌&&◌, length, eqb};
-ghost use Rattle.schedule.specs.Text.{block_at, line_at, end_of, is_end, open_after, cap, lower, tell, put, Ready};
-ghost use Rattle.schedule.specs.Read.{line_number, is_make, read_of, answered, filled};
-ghost use Rattle.basics.specs.Below.{one};
+ghost use Rattle.std.specs.Prelude.{◌≡◌, ◌+◌, ◌^◌, ◌≤◌, ◌<◌, length, min, MatchResult};
+ghost use Rattle.std.specs.Option.{option_or};
+ghost use Rattle.grammar.specs.Line.{after_of};
+ghost use Rattle.schedule.specs.Text.{open_after, has_line, block_at, line_at, end_of, tell, put, Ready};
+ghost use Rattle.schedule.specs.Read.{line_number, read_of, Playable, answered, filled};
 ghost use Rattle.tables.specs.Write.{write_at};
 
 use grammar::Kind;
 
-// What lines are read as: where the next one starts, the place of the lowest line at fault (the text's length where none is),
-// and the number of calls, which stops at 100,001.
-#[derive(Clone, Copy)]
+// Kept: the functions take a text and a place, as `grammar`'s do, and not a type of both: the definitions (`block_at s at depth`) have them so.
+
+// What lines are read as: where the next one starts, the lowest at fault, if one is, and the number of calls, which stops at 100,001.
+#[derive(Clone, Copy, Debug, PartialEq, Eq)]
 pub struct Got {
     pub next: usize,
-    pub fault: usize,
+    pub fault: Option<usize>,
     pub calls: usize,
 }
 
-fn lower_of(a: usize, b: usize) -> usize
-    ensures { result ≡ lower a b }
-{
-    if b < a { b } else { a }
-}
-
-fn capped(n: usize) -> usize
-    ensures { result ≡ cap n }
-{
-    if n <= 100001 { n } else { 100001 }
-}
-
-fn is_end(k: Kind) -> bool
-    ensures { result ≡ is_end k }
-{
-    if let Kind::End = k { true } else { false }
-}
-
-// Whether a line ends the block that is read, with `opens` blocks open in it.
-fn ends(k: Kind, opens: usize) -> bool
-    ensures { result ≡ (is_end k && eqb opens 0) }
-{
-    if let Kind::End = k { opens == 0 } else { false }
+impl Got {
+    // These lines and those after them. The first at fault is the lowest, since lines are read in order.
+    fn then(self, others: Got) -> Got
+        ensures { result ≡ record {
+          next = others.next;
+          fault = option_or self.fault others.fault;
+          calls = min (self.calls + others.calls) 100001;
+        } }
+    {
+        Got {
+            next: others.next,
+            fault: self.fault.or(others.fault),
+            calls: self.calls.saturating_add(others.calls).min(100001),
+        }
+    }
 }
 
 // The open blocks after a line.
-fn opened(k: Kind, opens: usize) -> usize
-    requires { opens ≤ 16384 }
-    ensures { result ≡ open_after k opens }
+fn opened(kind: Option<Kind>, opens: usize) -> usize
+    requires { opens + 1 < 2 ^ 64 }
+    ensures { result ≡ open_after kind opens }
 {
-    match k {
-        Kind::Repeat(_) => opens + 1,
-        Kind::End => { if opens == 0 { 0 } else { opens - 1 } }
+    match kind {
+        Some(Kind::Repeat(_)) => opens + 1,
+        Some(Kind::End) => opens.saturating_sub(1),
         _ => opens,
     }
 }
 
-// The `end` of the block whose lines go on at `at`, or the text's length.
-fn find_end(s: &[u8], at: usize) -> usize
-    requires { (at ≤ length s.now) × (length s.now ≤ 16384) }
-    ensures { result ≡ end_of s.now at 0 }
+// The place after the block whose lines go on at `at`: after its `end`, or the text's end.
+fn passed(s: &[u8], at: usize) -> usize
+    requires { at ≤ length s.now }
+    ensures { result ≡ after_of s.now (end_of s.now at 0) }
 {
     let mut i = at;
     let mut opens: usize = 0;
     while i < s.len() {
-        let k = grammar::kind_at(s, i);
-        if ends(k, opens) {
-            return i;
+        let next = grammar::after(s, i);
+        let kind = grammar::kind_at(s, i);
+        if kind == Some(Kind::End) && opens == 0 {
+            return next;
         }
-        opens = opened(k, opens);
-        i = grammar::after(s, i);
+        opens = opened(kind, opens);
+        i = next;
     }
     i
+}
+
+// Whether a block whose lines go on at `at` has a line there, and not its `end` or the text's end.
+fn has_line(s: &[u8], at: usize) -> bool
+    requires { at ≤ length s.now }
+    ensures { result ≡ has_line s.now at }
+{
+    at < s.len() && grammar::kind_at(s, at) != Some(Kind::End)
 }
 
 // The lines from `at` up to an `end` or the text's end.
 #[cycle(block_line)]
 fn block(s: &[u8], at: usize, depth: usize) -> Got
-    requires { (at ≤ length s.now) × (length s.now ≤ 16384) }
+    requires { at ≤ length s.now }
     ensures { result ≡ tell (block_at s.now at depth) }
 {
-    let mut i = at;
-    let mut fault = s.len();
-    let mut calls: usize = 0;
-    while i < s.len() {
-        if is_end(grammar::kind_at(s, i)) {
-            return Got {
-                next: i,
-                fault,
-                calls,
-            };
-        }
-        let g = line(s, i, depth);
-        i = g.next;
-        fault = lower_of(fault, g.fault);
-        calls = capped(calls + g.calls);
+    let mut got = Got {
+        next: at,
+        fault: None,
+        calls: 0,
+    };
+    while has_line(s, got.next) {
+        got = got.then(line(s, got.next, depth));
     }
-    Got {
-        next: i,
-        fault,
-        calls,
-    }
+    got
 }
 
 // One line, with the block that it opens.
 #[cycle(block_line)]
 fn line(s: &[u8], at: usize, depth: usize) -> Got
-    requires { (at < length s.now) × (length s.now ≤ 16384) }
+    requires { at < length s.now }
     ensures { result ≡ tell (line_at s.now at depth) }
 {
     let next = grammar::after(s, at);
-    match grammar::kind_at(s, at) {
+    let wrong = Got {
+        next,
+        fault: Some(at),
+        calls: 0,
+    };
+    let Some(kind) = grammar::kind_at(s, at) else {
+        return wrong;
+    };
+    match kind {
         Kind::Call => Got {
             next,
-            fault: s.len(),
+            fault: None,
             calls: 1,
         },
+        Kind::Repeat(_) if depth == 0 => Got {
+            next: passed(s, next),
+            ..wrong
+        },
         Kind::Repeat(n) => {
-            if depth == 0 {
-                let end = find_end(s, next);
+            let inner = block(s, next, depth - 1);
+            if inner.next == s.len() {
                 return Got {
-                    next: grammar::after(s, end),
-                    fault: at,
-                    calls: 0,
+                    next: inner.next,
+                    ..wrong
                 };
             }
-            let g = block(s, next, depth - 1);
-            let end = g.next;
-            if end < s.len() {
-                Got {
-                    next: grammar::after(s, end),
-                    fault: g.fault,
-                    calls: capped(n * g.calls),
-                }
-            } else {
-                Got {
-                    next: end,
-                    fault: at,
-                    calls: 0,
-                }
+            Got {
+                next: grammar::after(s, inner.next),
+                calls: n.saturating_mul(inner.calls).min(100001),
+                ..inner
             }
         }
-        _ => Got {
-            next,
-            fault: at,
-            calls: 0,
-        },
+        _ => wrong,
     }
 }
 
-// Where the second pass is after some lines: where the next one starts, and the first place of the table that is still free.
-#[derive(Clone, Copy)]
+// Where the second pass is after some lines: where the next one starts, and how many calls were written.
+#[derive(Clone, Copy, Debug, PartialEq, Eq)]
 pub struct Put {
     pub next: usize,
-    pub upto: usize,
+    pub written: usize,
 }
 
-// The calls of the lines from `at` up to an `end` or the text's end are written into the table from place k on.
+// The calls of the lines from `at` up to an `end` or the text's end are written at the start of the table.
 #[cycle(put_block_put_line)]
-fn put_block(s: &[u8], at: usize, depth: usize, t: &mut [u32], k: usize) -> Put
-    requires { (at ≤ length s.now) × Ready s.now (block_at s.now at depth) t.old k }
-    ensures { (result ≡ put (block_at s.now at depth) k) × (t.new ≡ write_at t.old k (block_at s.now at depth).calls) }
+fn put_block(s: &[u8], at: usize, depth: usize, t: &mut [u32]) -> Put
+    requires { (at ≤ length s.now) × Ready s.now (block_at s.now at depth) t.old }
+    ensures { (result ≡ put (block_at s.now at depth)) × (t.new ≡ write_at t.old 0 (block_at s.now at depth).calls) }
 {
-    let mut i = at;
-    let mut to = k;
-    while i < s.len() {
-        if is_end(grammar::kind_at(s, i)) {
-            return Put { next: i, upto: to };
-        }
-        let p = put_line(s, i, depth, t, to);
-        i = p.next;
-        to = p.upto;
+    let mut p = Put {
+        next: at,
+        written: 0,
+    };
+    while has_line(s, p.next) {
+        let more = put_line(s, p.next, depth, &mut t[p.written..]);
+        p = Put {
+            next: more.next,
+            written: p.written + more.written,
+        };
     }
-    Put { next: i, upto: to }
+    p
 }
 
 // The same of one line: a block that it opens is written once, and then copied.
 #[cycle(put_block_put_line)]
-fn put_line(s: &[u8], at: usize, depth: usize, t: &mut [u32], k: usize) -> Put
-    requires { (at < length s.now) × Ready s.now (line_at s.now at depth) t.old k }
-    ensures { (result ≡ put (line_at s.now at depth) k) × (t.new ≡ write_at t.old k (line_at s.now at depth).calls) }
+fn put_line(s: &[u8], at: usize, depth: usize, t: &mut [u32]) -> Put
+    requires { (at < length s.now) × Ready s.now (line_at s.now at depth) t.old }
+    ensures { (result ≡ put (line_at s.now at depth)) × (t.new ≡ write_at t.old 0 (line_at s.now at depth).calls) }
 {
     let next = grammar::after(s, at);
-    match grammar::kind_at(s, at) {
+    let Some(kind) = grammar::kind_at(s, at) else {
+        return Put { next, written: 0 };
+    };
+    match kind {
         Kind::Call => {
-            t[k] = at as u32;
-            return Put { next, upto: k + 1 };
+            t[0] = at as u32;
+            Put { next, written: 1 }
         }
         Kind::Repeat(n) => {
-            let p = put_block(s, next, depth - 1, t, k);
-            let end = p.next;
-            let upto = tables::repeat_part(t, k, p.upto - k, n);
-            return Put {
-                next: grammar::after(s, end),
-                upto,
-            };
+            let p = put_block(s, next, depth - 1, t);
+            Put {
+                next: grammar::after(s, p.next),
+                written: tables::repeat_part(t, 0, p.written, n),
+            }
         }
-        _ => {
-            return Put { next, upto: k };
-        }
+        _ => Put { next, written: 0 },
     }
 }
 
-// What a text is read as: too long, the number of its lowest line at fault, or the number of its calls.
-#[derive(Clone, Copy)]
-pub enum Read {
+// Why a text is not read as calls: it is too long, or the number of its lowest line at fault.
+#[derive(Clone, Copy, Debug, PartialEq, Eq)]
+pub enum Unread {
     TooLong,
     BadLine(usize),
-    Calls(usize),
-}
-
-fn is_make(k: Kind) -> bool
-    ensures { result ≡ is_make k }
-{
-    if let Kind::Make = k { true } else { false }
-}
-
-fn newline(b: u8) -> usize
-    ensures { result ≡ one (eqb b 10) }
-{
-    if b == b'\n' { 1 } else { 0 }
 }
 
 // The number of the line at place p.
+#[tactic(auto, unfolding(crate::specs::Read::line_number))]
 fn number_of(s: &[u8], p: usize) -> usize
-    requires { (p ≤ length s.now) × (length s.now ≤ 16384) }
+    requires { p ≤ length s.now }
     ensures { result ≡ line_number s.now p }
 {
-    let mut n: usize = 1;
-    let mut i: usize = 0;
-    while i < p {
-        n = n + newline(s[i]);
-        i = i + 1;
-    }
-    n
+    s[..p].iter().filter(|b| **b == b'\n').count() + 1
 }
 
-// The whole text. Where it is read as calls, the table holds the place of each call's line from 0 on; else it is unchanged.
-pub fn unroll(s: &[u8], t: &mut [u32; 100000]) -> Read
-    ensures { (result ≡ answered (read_of s.now)) × (t.new ≡ filled (read_of s.now) t.old) }
+// The start of line 2, if the text is read as calls.
+fn second_line(s: &[u8]) -> Result<usize, Unread>
+    ensures { MatchResult result (Playable s.now) (λ e. answered (read_of s.now) ≡ Err e) }
 {
     if 16384 < s.len() {
-        return Read::TooLong;
+        return Err(Unread::TooLong);
     }
-    if !is_make(grammar::kind_at(s, 0)) {
-        return Read::BadLine(1);
+    if grammar::kind_at(s, 0) != Some(Kind::Make) {
+        return Err(Unread::BadLine(1));
     }
-    let first = grammar::after(s, 0);
-    let g = block(s, first, 4);
-    let fault = lower_of(g.fault, g.next);
-    if fault < s.len() {
-        return Read::BadLine(number_of(s, fault));
+    let second = grammar::after(s, 0);
+    let got = block(s, second, 4);
+    let stray_end = (got.next < s.len()).then_some(got.next);
+    if let Some(fault) = got.fault.or(stray_end) {
+        return Err(Unread::BadLine(number_of(s, fault)));
     }
-    if 100000 <= g.calls {
-        return Read::TooLong;
+    if 100000 <= got.calls {
+        return Err(Unread::TooLong);
     }
+    Ok(second)
+}
+
+// The number of calls of the whole text. Where it is read as calls, the table holds the place of each call's line from 0 on; else it is unchanged.
+pub fn unroll(s: &[u8], t: &mut [u32; 100000]) -> Result<usize, Unread>
+    ensures { (result ≡ answered (read_of s.now)) × (t.new ≡ filled (read_of s.now) t.old) }
+{
+    let second = second_line(s)?;
     t[0] = 0;
-    let p = put_block(s, first, 4, t, 1);
-    Read::Calls(p.upto)
+    let p = put_block(s, second, 4, &mut t[1..]);
+    Ok(1 + p.written)
 }

@@ -11,9 +11,9 @@ decreases-block l = remaining l.s.now l.at l.depth + 1
 abbrev pub decreases-line : goal.decreases-line
 decreases-line l = remaining l.s.now l.at l.depth
 
-abbrev pub invariant-block-loop-i : goal.invariant-block-loop-i
-invariant-block-loop-i l =
-    (l.i ≤ length l.s) × (l.fault ≤ length l.s) × (l.calls ≤ 100001) × (joined l.fault l.calls (tell (block_at l.s l.i l.depth)) ≡ tell (block_at l.s l.at l.depth)) × (l.at ≤ l.i)
+abbrev pub invariant-block-loop-got : goal.invariant-block-loop-got
+invariant-block-loop-got l =
+    (l.got.next ≤ length l.s) × (l.got.calls ≤ 100001) × (joined l.got (tell (block_at l.s l.got.next l.depth)) ≡ tell (block_at l.s l.at l.depth)) × (l.at ≤ l.got.next)
 
-abbrev pub decreases-block-loop-i : goal.decreases-block-loop-i
-decreases-block-loop-i l = length l.s - l.i
+abbrev pub decreases-block-loop-got : goal.decreases-block-loop-got
+decreases-block-loop-got l = length l.s - l.got.next

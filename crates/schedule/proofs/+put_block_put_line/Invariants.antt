@@ -11,8 +11,8 @@ decreases-put_block l = remaining l.s.now l.at l.depth + 1
 abbrev pub decreases-put_line : goal.decreases-put_line
 decreases-put_line l = remaining l.s.now l.at l.depth
 
-abbrev pub invariant-put_block-loop-i : goal.invariant-put_block-loop-i
-invariant-put_block-loop-i l = (l.i ≤ length l.s) × Going l.s (block_at l.s l.at l.depth) (block_at l.s l.i l.depth) l.fn.t l.t l.k l.to × (l.at ≤ l.i)
+abbrev pub invariant-put_block-loop-t : goal.invariant-put_block-loop-t
+invariant-put_block-loop-t l = (l.p.next ≤ length l.s) × Going l.s (block_at l.s l.at l.depth) (block_at l.s l.p.next l.depth) l.fn.t l.t l.p.written × (l.at ≤ l.p.next)
 
-abbrev pub decreases-put_block-loop-i : goal.decreases-put_block-loop-i
-decreases-put_block-loop-i l = length l.s - l.i
+abbrev pub decreases-put_block-loop-t : goal.decreases-put_block-loop-t
+decreases-put_block-loop-t l = length l.s - l.p.next

@@ -1,15 +1,13 @@
--- `repeat_part` meets its contract: after r turns less one the part stands there r times.
-use Rattle.std.proofs.Common.{refl, ◌∙◌, rules}
-use Rattle.tables.proofs.Laws.{next_to, first_to, none_to, repeat_first, repeat_on, repeat_none}
+-- `repeat_part` meets its contract: after k turns, counted from 1, the part stands there k times.
+use Rattle.std.proofs.Common.{rules, arith}
+use Rattle.tables.proofs.Laws.{repeat_first, repeat_on, repeat_none}
 use Rattle.tables.proofs.repeat_part.Goals as goal
 
 pub returns-then-m-eq0 : goal.returns-then-m-eq0
-returns-then-m-eq0 c = (none_to _ _ _ c.if-m-eq0.true, repeat_none _ _ _ _ c.if-m-eq0.true)
+returns-then-m-eq0 c = repeat_none _ _ _ _ c.if-m-eq0.true
 
-pub loop-r-init : goal.loop-r-init
-loop-r-init c = (search rules, search rules, first_to _ _, refl, repeat_first _ _ _)
+pub loop-k-init : goal.loop-k-init
+loop-k-init c = (search rules, repeat_first _ _ _)
 
-pub loop-r-preserved : goal.loop-r-preserved
-loop-r-preserved c =
-    let l = c.loop-r in
-    (search rules, search rules, next_to _ _ _ _ l.invariant.2, c.copy_part.auto.t ∙ l.invariant.3, repeat_on _ _ _ _ _ _ _ l.invariant.0 l.invariant.2 l.invariant.4 c.copy_part.ensures)
+pub loop-k-preserved : goal.loop-k-preserved
+loop-k-preserved c = (omega (arith, c.copy_within.ensures.len), repeat_on c.args.t.now c.args.from c.args.m _ _ _ c.args.n (omega arith) (omega arith) c.requires.1 c.loop-k.invariant.1 c.copy_within.ensures.after)

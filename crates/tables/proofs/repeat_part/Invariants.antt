@@ -1,11 +1,8 @@
--- After r turns less one the part stands there r times.
-use Rattle.std.proofs.Common.{◌-◌, ◌≡◌, ◌+◌, ◌*◌, ◌≤◌, length}
-use Rattle.tables.specs.Write.{write_at, part_of, copies}
+-- After k turns, counted from 1, the part stands there k times.
+use Rattle.std.proofs.Common.{◌-◌, ◌≡◌, ◌+◌, length}
+use Rattle.std.specs.List.{repeat, slice_range}
+use Rattle.tables.specs.Write.{write_at}
 use Rattle.tables.proofs.repeat_part.Given as goal
 
-abbrev pub invariant-loop-r : goal.invariant-loop-r
-invariant-loop-r l =
-    (1 ≤ l.r) × (l.r ≤ l.n) × (l.to ≡ l.from + l.r * l.m) × (length l.t ≡ length l.fn.t) × (l.t ≡ write_at l.fn.t (l.from + l.m) (copies (l.r - 1) (part_of l.fn.t l.from l.m)))
-
-abbrev pub decreases-loop-r : goal.decreases-loop-r
-decreases-loop-r l = l.n - l.r
+abbrev pub invariant-loop-k : goal.invariant-loop-k
+invariant-loop-k l = (length l.t ≡ length l.fn.t) × (l.t ≡ write_at l.fn.t (l.from + l.m) (repeat (l.k - 1) (slice_range l.fn.t l.from (l.from + l.m))))

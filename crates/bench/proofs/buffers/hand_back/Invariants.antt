@@ -1,6 +1,0 @@
--- `bench::buffers::hand_back` ends: it counts up to `times`. Assumes nothing.
-use Rattle.std.proofs.Common.{◌-◌}
-use Rattle.bench.proofs.buffers.hand_back.Given as goal
-
-abbrev pub decreases-loop-k : goal.decreases-loop-k
-decreases-loop-k l = l.times - l.k

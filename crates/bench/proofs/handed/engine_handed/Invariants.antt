@@ -1,6 +1,0 @@
--- `bench::handed::engine_handed` ends: it counts up to `times`. Assumes nothing.
-use Rattle.std.proofs.Common.{◌-◌}
-use Rattle.bench.proofs.handed.engine_handed.Given as goal
-
-abbrev pub decreases-loop-k : goal.decreases-loop-k
-decreases-loop-k l = l.times - l.k

@@ -1,5 +1,0 @@
--- n falls to n / 10.
-use Rattle.printed.proofs.+put_number.Given as goal
-
-abbrev pub decreases-put_number : goal.decreases-put_number
-decreases-put_number l = l.n
