@@ -11,8 +11,9 @@ use Rattle.tables.proofs.Laws.{write_front}
 use Rattle.pool.specs.declared.Pool.{Pool}
 use Rattle.printed.specs.Printed.{decimal}
 use Rattle.printed.proofs.Laws.{decimal_fits}
-use Rattle.schedule.specs.declared.Read.{Read}
-use Rattle.schedule.specs.declared.Read.TheVariants.{TooLong, BadLine, Calls}
+use Rattle.std.specs.Prelude.{Result, Ok, Err}
+use Rattle.schedule.specs.declared.Unread.{Unread}
+use Rattle.schedule.specs.declared.Unread.TheVariants.{TooLong, BadLine}
 use Rattle.schedule.specs.Read.{Reading, calls, read_of, answered, filled}
 use Rattle.schedule.proofs.Called.{ReadAs, read_as, faultless}
 use Rattle.schedule.proofs.Examples.{examples}
@@ -33,10 +34,10 @@ front t u l n e f h = rw (e, f, write_front t l h) (take-append_seam l (drop (le
 
 -- ---- the three functions, by their contracts
 
-unrolls : (s : List ℕ) (r : Read) (left : List ℕ) → Unrolls s r left → ReadAs (read_of s) r
+unrolls : (s : List ℕ) (r : Result ℕ Unread) (left : List ℕ) → Unrolls s r left → ReadAs (read_of s) r
 unrolls s r left h = read_as s r (h.allowed.0 ∙ ap (λ (x : List ℕ). answered (read_of x)) h.text_so)
 
-places_in : (s : List ℕ) (n : ℕ) (left places : List ℕ) → Unrolls s (Calls n) left → read_of s ≡ calls places → n ≡ length places → take n left ≡ places
+places_in : (s : List ℕ) (n : ℕ) (left places : List ℕ) → Unrolls s (Ok n) left → read_of s ≡ calls places → n ≡ length places → take n left ≡ places
 places_in s n left places h e f =
     let t = h.table.now in
     let w : left ≡ write_at t 0 places = sym h.left_so ∙ (h.allowed.1 ∙ (ap (λ (x : List ℕ). filled (read_of x) t) h.text_so ∙ ap (λ (x : Reading). filled x t) e)) in
@@ -52,12 +53,12 @@ turns_so s place k p r b h =
       sym h.bytes_so ∙ front h.out.now _ (turn_at s place k p).bytes r.written u n (omega (arith, n, h.allowed.1.1, h.room)),
     )
 
-judgement_fits : (r : Read) → length (judgement r) ≤ 8192
-judgement_fits TooLong = omega arith
-judgement_fits (BadLine l) = omega (arith, decimal_fits l, length-append (decimal l) (bytes "\n"), length-append (bytes "bad line ") (decimal l ++ bytes "\n"))
-judgement_fits (Calls n) = omega arith
+judgement_fits : (r : Result ℕ Unread) → length (judgement r) ≤ 8192
+judgement_fits (Err TooLong) = omega arith
+judgement_fits (Err (BadLine l)) = omega (arith, decimal_fits l, length-append (decimal l) (bytes "\n"), length-append (bytes "bad line ") (decimal l ++ bytes "\n"))
+judgement_fits (Ok n) = omega arith
 
-judges : (r : Read) (b : List ℕ) → Judges r b → b ≡ judgement r
+judges : (r : Result ℕ Unread) (b : List ℕ) → Judges r b → b ≡ judgement r
 judges r b h = sym h.bytes_so ∙ front h.out.now _ (judgement r) h.written h.allowed.1 h.allowed.0 (omega (arith, judgement_fits r, h.room))
 
 -- ---- the program
@@ -76,11 +77,11 @@ said_so s x e = rw e
 
 prints : (s b : List ℕ) → Prints s b → b ≡ transcript s
 prints s b (played n left bytes p u h) =
-    let r = unrolls s (Calls n) left u in
+    let r = unrolls s (Ok n) left u in
     lines_so h
     ∙ (ap (λ (l : List ℕ). (turns_from s 1 l p).bytes) (places_in s n left r.0 u r.1.0 r.1.1) ∙ whole s r.0 r.1.0 p)
-prints s b (too_long left bytes u h) = judges TooLong bytes h ∙ said_so s _ (unrolls s TooLong left u)
-prints s b (bad_line l left bytes u h) = judges (BadLine l) bytes h ∙ said_so s _ (unrolls s (BadLine l) left u)
+prints s b (too_long left bytes u h) = judges (Err TooLong) bytes h ∙ said_so s _ (unrolls s (Err TooLong) left u)
+prints s b (bad_line l left bytes u h) = judges (Err (BadLine l)) bytes h ∙ said_so s _ (unrolls s (Err (BadLine l)) left u)
 
 pub request_102_lem : Request102
 request_102_lem =

@@ -1,6 +1,6 @@
 -- What Sorkhabin promises, on one page: the three demands and what later requests add, each a statement about the contracts of the engine's public functions (`Allowed`).
 -- The functions of src/lib.rt promise these statements, so one that is not shown, or only in part, fails the check of this crate.
-use Rattle.std.specs.Prelude.{ℕ, ◌-◌, ◌≤◌, ◌≡◌, ◌↔◌, true, false, List, [], ◌++◌, Result, ⊤}
+use Rattle.std.specs.Prelude.{ℕ, ◌-◌, ◌≤◌, ◌≡◌, ◌↔◌, true, false, List, [], ◌++◌, Result, Some, ⊤}
 use Rattle.basics.specs.Among.{among_first}
 use Rattle.pool.specs.declared.Pool.{Pool}
 use Rattle.pool.specs.declared.Refusal.{Refusal}
@@ -25,7 +25,6 @@ use Rattle.history.specs.Examples.{HeldAndKept, HeldByAnother, KeptBack}
 use Rattle.tables.specs.Bytes.{bytes}
 use Rattle.grammar.specs.declared.Line.TheVariants.{Make}
 use Rattle.grammar.specs.Line.{line_of}
-use Rattle.grammar.specs.declared.numbers.Number.TheVariants.{Value}
 use Rattle.grammar.specs.Words.{number_of as read_number}
 use Rattle.printed.specs.Printed.{decimal, line_for}
 use Rattle.schedule.specs.Read.{calls, read_of}
@@ -119,14 +118,14 @@ pub record Request102 : Type 0 where
   pub printed : (s bytes : List ℕ) → Prints s bytes → bytes ≡ transcript s
   -- a text is too long, at fault at a line, or played: then its line 1 makes the pool, and each answer is that of the unrolled text, call by call on the engine
   pub run : (s places : List ℕ) → read_of s ≡ calls places
-      → (w : ℕ) × (g : ℕ) × (b : ℕ) × (line_of s 0 ≡ Make w g b)
+      → (w : ℕ) × (g : ℕ) × (b : ℕ) × (line_of s 0 ≡ Some (Make w g b))
       × (transcript s ≡ line_for 1 (make_of w g b).answer [] ++ printed_from 2 (seen (unrolled s places) (make_of w g b).pool))
   -- demand 3 at any moment of any schedule whose pool is made: each buffer is in exactly one place, its state follows from the answers, what was given up is
   -- accounted for, and no step hands back a buffer that is held
-  pub follows : (s places : List ℕ) (w g b : ℕ) → read_of s ≡ calls places → line_of s 0 ≡ Make w g b → in_range w g b ≡ true
+  pub follows : (s places : List ℕ) (w g b : ℕ) → read_of s ≡ calls places → line_of s 0 ≡ Some (Make w g b) → in_range w g b ≡ true
       → (now later : List Call) → unrolled s places ≡ now ++ later → Follows w g b (after now (blank w g b)) (history_after fresh (seen now (blank w g b)))
   -- a number is printed so that it is read as that number
-  pub read_back : (n : ℕ) → n ≤ 4294967295 → read_number (decimal n) ≡ Value n
+  pub read_back : (n : ℕ) → n ≤ 4294967295 → read_number (decimal n) ≡ Some n
   -- the request's own example
   pub example : transcript (bytes "make 1 1 1\nhire 1\nrepeat 3\nstep 1\nend\n") ≡ bytes "1 ok\n2 ok\n3 at 4\n4 at 6\n5 guard 0\n"
   -- more texts, and what they are read as

@@ -1,17 +1,18 @@
 -- Schedules read and played by the libraries' public functions, each with a result that its contract allows; and what a program that does so prints.
 use Rattle.std.specs.Prelude.{ℕ, ◌+◌, ◌≡◌, List, [], ◌∷◌, ◌++◌, length, take}
+use Rattle.std.specs.Prelude.{Result, Ok, Err}
 use Rattle.std.specs.Borrow.{Bor, MutBor}
 use contract.Lifetimes.{Lfts}
 use Rattle.pool.specs.declared.Pool.{Pool}
-use Rattle.schedule.specs.declared.Read.{Read}
-use Rattle.schedule.specs.declared.Read.TheVariants.{TooLong, BadLine, Calls}
+use Rattle.schedule.specs.declared.Unread.{Unread}
+use Rattle.schedule.specs.declared.Unread.TheVariants.{TooLong, BadLine}
 use Rattle.player.specs.declared.Turn.{Turn}
 use Rattle.demands.specs.Promises.{UnrollPre, UnrollPost, PlayLinePre, PlayLinePost, PutReadPre, PutReadPost}
 
 -- ---- the three functions, wherever the bytes and the tables stand and however long they are lent
 
 -- text s is unrolled into the lent table of 100,000 places, which is left as `left`
-pub record Unrolls (s : List ℕ) (r : Read) (left : List ℕ) : Type 0 where
+pub record Unrolls (s : List ℕ) (r : Result ℕ Unread) (left : List ℕ) : Type 0 where
   pub lifetimes : Lfts 2
   pub text : Bor (List ℕ)
   pub table : MutBor (List ℕ)
@@ -33,7 +34,7 @@ pub record PlaysLine (s : List ℕ) (place k : ℕ) (p : Pool) (r : Turn) (bytes
   pub bytes_so : take r.written at_exit.1.1.1.1.0.now ≡ bytes
 
 -- what is printed of a text that is read so
-pub record Judges (r : Read) (bytes : List ℕ) : Type 0 where
+pub record Judges (r : Result ℕ Unread) (bytes : List ℕ) : Type 0 where
   pub lifetimes : Lfts 1
   pub out : MutBor (List ℕ)
   pub written : ℕ
@@ -52,13 +53,13 @@ pub data PlaysLines (s : List ℕ) : ℕ → List ℕ → Pool → List ℕ → 
 
 -- whoever unrolls text s, and plays each call's place or says why there is none, prints `bytes`
 pub data Prints (s : List ℕ) : List ℕ → Type 0 where
-  played : (n : ℕ) (left bytes : List ℕ) (p : Pool) → Unrolls s (Calls n) left → PlaysLines s 1 (take n left) p bytes → Prints s bytes
-  too_long : (left bytes : List ℕ) → Unrolls s TooLong left → Judges TooLong bytes → Prints s bytes
-  bad_line : (l : ℕ) (left bytes : List ℕ) → Unrolls s (BadLine l) left → Judges (BadLine l) bytes → Prints s bytes
+  played : (n : ℕ) (left bytes : List ℕ) (p : Pool) → Unrolls s (Ok n) left → PlaysLines s 1 (take n left) p bytes → Prints s bytes
+  too_long : (left bytes : List ℕ) → Unrolls s (Err TooLong) left → Judges (Err TooLong) bytes → Prints s bytes
+  bad_line : (l : ℕ) (left bytes : List ℕ) → Unrolls s (Err (BadLine l)) left → Judges (Err (BadLine l)) bytes → Prints s bytes
 
 -- ---- what is asked of the caller: nothing
 
 pub record NothingAskedToPlay : Type 0 where
   pub unroll : (κs : Lfts 2) (text : Bor (List ℕ)) (table : MutBor (List ℕ)) → UnrollPre κs (text, (table, tt))
   pub play_line : (κs : Lfts 2) (text : Bor (List ℕ)) (place k : ℕ) (p : Pool) (out : MutBor (List ℕ)) → PlayLinePre κs (text, (place, (k, (p, (out, tt)))))
-  pub put_read : (κs : Lfts 1) (r : Read) (out : MutBor (List ℕ)) → PutReadPre κs (r, (out, tt))
+  pub put_read : (κs : Lfts 1) (r : Result ℕ Unread) (out : MutBor (List ℕ)) → PutReadPre κs (r, (out, tt))
