@@ -9,7 +9,7 @@ use pool::Answer;
 use std::fmt;
 
 // An answer in words.
-#[derive(Clone, Copy)]
+#[derive(Clone, Copy, Debug, PartialEq, Eq)]
 pub struct InWords(pub Answer);
 
 impl fmt::Display for InWords {

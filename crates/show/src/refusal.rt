@@ -5,7 +5,7 @@ use pool::{Answer, Pool, Refusal};
 use std::fmt;
 
 // Why a call was refused that left this record.
-#[derive(Clone, Copy)]
+#[derive(Clone, Copy, Debug, PartialEq, Eq)]
 pub struct Reason<'a> {
     pub pool: &'a Pool,
     pub refusal: Refusal,
@@ -47,7 +47,7 @@ impl fmt::Display for Reason<'_> {
 }
 
 // The answer to a call that left this record; a refusal with its words.
-#[derive(Clone, Copy)]
+#[derive(Clone, Copy, Debug, PartialEq, Eq)]
 pub struct WithReason<'a> {
     pub pool: &'a Pool,
     pub answer: Answer,

@@ -40,7 +40,7 @@ fn wrong_register(entry: Entry, x: Worker, g: Count) -> Option<Wrong> {
 }
 
 // A record, the first rule that it breaks, and the place.
-#[derive(Clone, Copy)]
+#[derive(Clone, Copy, Debug, PartialEq, Eq)]
 struct Broken<'a> {
     pool: &'a Pool,
     rule: Refusal,
@@ -162,7 +162,7 @@ impl Broken<'_> {
 }
 
 // The soundness test of a record, in words.
-#[derive(Clone, Copy)]
+#[derive(Clone, Copy, Debug, PartialEq, Eq)]
 pub(crate) struct Soundness<'a>(pub(crate) &'a Pool);
 
 impl fmt::Display for Soundness<'_> {

@@ -60,7 +60,7 @@ impl Guard {
 }
 
 // What a worker has: its label and registers, and its set.
-#[derive(Clone, Copy)]
+#[derive(Clone, Copy, Debug, PartialEq, Eq)]
 pub(crate) struct Holding {
     pub(crate) worker: Worker,
     pub(crate) set: IdSet,
@@ -93,7 +93,7 @@ impl Holding {
 }
 
 // What is wrong.
-#[derive(Clone, Copy)]
+#[derive(Clone, Copy, Debug, PartialEq, Eq)]
 pub(crate) enum Wrong {
     // A count that is not 1 to this most.
     Range(Count, u32),

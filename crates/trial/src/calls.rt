@@ -1,7 +1,7 @@
 // The lines that make a call.
 use pool::{Answer, BufferId, GuardNo, Outcome, Pool, WorkerNo};
 
-#[derive(Clone, Copy)]
+#[derive(Clone, Copy, Debug, PartialEq, Eq)]
 pub enum Call {
     Make(u32, u32, u32),
     Hire(WorkerNo),

@@ -18,7 +18,7 @@ impl fmt::Display for Spaced<'_> {
 }
 
 // An answer, in the words of a result's first line.
-#[derive(Clone, Copy)]
+#[derive(Clone, Copy, Debug, PartialEq, Eq)]
 pub struct Said(pub Answer);
 
 impl fmt::Display for Said {
@@ -79,7 +79,7 @@ fn write_set<W: fmt::Write>(f: &mut fmt::Formatter<W>, no: usize, set: IdSet) ->
 }
 
 // The whole record, in the lines that set it.
-#[derive(Clone, Copy)]
+#[derive(Clone, Copy, Debug, PartialEq, Eq)]
 pub struct Record<'a>(pub &'a Pool);
 
 impl fmt::Display for Record<'_> {
