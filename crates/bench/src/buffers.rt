@@ -19,14 +19,14 @@ fn give_up(fresh: Pool, times: u64, ids: &[u32], advances: u32, list: &mut [u32]
     let mut p = fresh;
     for _ in 0..times {
         for id in ids {
-            p = sum.hear(p.take(BufferId(*id)));
+            play_on!(sum, p, p.take(BufferId(*id)));
         }
-        p = sum.hear(p.give_up(WorkerNo(1), ids));
+        play_on!(sum, p, p.give_up(WorkerNo(1), ids));
         for _ in 0..advances {
-            p = sum.hear(p.advance(WorkerNo(1), list));
+            play_on!(sum, p, p.advance(WorkerNo(1), list));
         }
     }
-    sum.add_record(&p);
+    sum.add_record(p);
     sum.add_all(list);
     sum.0
 }
@@ -58,12 +58,12 @@ fn hand_back(at32: Pool, times: u64, list: &mut [u32]) -> u64 {
     let mut sum = Checksum(0);
     let mut p = at32;
     for _ in 0..times {
-        p = sum.hear(p.advance(WorkerNo(1), list));
+        play_on!(sum, p, p.advance(WorkerNo(1), list));
         p.workers[0] = me;
         p.sets[0] = set;
         p.states = states;
     }
-    sum.add_record(&p);
+    sum.add_record(p);
     sum.add_all(list);
     sum.0
 }

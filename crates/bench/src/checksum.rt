@@ -1,5 +1,5 @@
 // A checksum of answers, records and lists.
-use pool::{Answer, Outcome, Pool};
+use pool::{Answer, Pool};
 
 #[derive(Clone, Copy)]
 pub struct Checksum(pub u64);
@@ -41,15 +41,8 @@ impl Checksum {
         self.add(number(answer));
     }
 
-    // What a call answered; the record that it handed back is played on.
-    #[inline(always)]
-    pub fn hear(&mut self, done: Outcome) -> Pool {
-        self.add_answer(done.answer);
-        done.pool
-    }
-
     // Every entry of the record.
-    pub fn add_record(&mut self, p: &Pool) {
+    pub fn add_record(&mut self, p: Pool) {
         self.add_all(&[p.w, p.g, p.b, p.maxg]);
         self.add_all(&p.taken);
         self.add_all(&p.employer);

@@ -27,7 +27,7 @@ fn give_up(run: &mut Run, before: u8) {
     for w in 1..5u32 {
         let a = u32::from(before) + w;
         let ids = [a, a + 4, a + 8, a + 12, a + 16, a + 20, a + 24, a + 28];
-        run.pool = run.sum.hear(run.pool.give_up(WorkerNo(w), &ids));
+        play_on!(run.sum, run.pool, run.pool.give_up(WorkerNo(w), &ids));
     }
 }
 
@@ -37,10 +37,10 @@ fn take_turns(run: &mut Run, list: &mut [u32]) {
         for k in 0..8u32 {
             let worker = WorkerNo(k + 1);
             if run.pool.workers[k as usize].label != 0 {
-                run.pool = run.sum.hear(run.pool.advance(worker, list));
+                play_on!(run.sum, run.pool, run.pool.advance(worker, list));
             } else if 4 <= k && turn % 40 == 0 && turn < 160 {
                 let guard = GuardNo(k % 4 * 8 + turn / 40 * 2 + 1);
-                run.pool = run.sum.hear(run.pool.post(worker, guard, BufferId(0)));
+                play_on!(run.sum, run.pool, run.pool.post(worker, guard, BufferId(0)));
             }
         }
     }
@@ -60,7 +60,7 @@ pub extern "C" fn engine_contention(times: u64) -> u64 {
         give_up(&mut run, before);
         take_turns(&mut run, &mut list);
     }
-    run.sum.add_record(&run.pool);
+    run.sum.add_record(run.pool);
     run.sum.add_all(&list);
     run.sum.0
 }

@@ -9,16 +9,16 @@ pub extern "C" fn engine_hire_fire(times: u64) -> u64 {
     let mut sum = Checksum(0);
     let mut p = Pool::make(8, 32, 256).pool;
     for _ in 0..times {
-        p = sum.hear(p.hire(WorkerNo(1)));
+        play_on!(sum, p, p.hire(WorkerNo(1)));
         for _ in 0..3 {
-            p = sum.hear(p.advance(WorkerNo(1), &mut []));
+            play_on!(sum, p, p.advance(WorkerNo(1), &mut []));
         }
-        p = sum.hear(p.fire(WorkerNo(1), GuardNo(0)));
+        play_on!(sum, p, p.fire(WorkerNo(1), GuardNo(0)));
         for _ in 0..2 {
-            p = sum.hear(p.advance(WorkerNo(1), &mut []));
+            play_on!(sum, p, p.advance(WorkerNo(1), &mut []));
         }
     }
-    sum.add_record(&p);
+    sum.add_record(p);
     sum.0
 }
 
@@ -29,12 +29,12 @@ pub extern "C" fn engine_post(times: u64) -> u64 {
     let mut p = staffed(32, 256);
     for _ in 0..times {
         for buffer in [1, 0] {
-            p = sum.hear(p.post(WorkerNo(5), GuardNo(0), BufferId(buffer)));
+            play_on!(sum, p, p.post(WorkerNo(5), GuardNo(0), BufferId(buffer)));
             for _ in 0..2 {
-                p = sum.hear(p.advance(WorkerNo(5), &mut []));
+                play_on!(sum, p, p.advance(WorkerNo(5), &mut []));
             }
         }
     }
-    sum.add_record(&p);
+    sum.add_record(p);
     sum.0
 }

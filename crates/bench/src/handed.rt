@@ -17,8 +17,8 @@ pub extern "C" fn engine_handed(times: u64) -> u64 {
     let mut sum = Checksum(0);
     let mut p = Pool::make(8, 32, 256).pool;
     for k in 0..times {
-        p = sum.hear(stored(p, k));
+        play_on!(sum, p, stored(p, k));
     }
-    sum.add_record(&p);
+    sum.add_record(p);
     sum.0
 }

@@ -52,14 +52,14 @@ fn list(times: u64, count: usize, good: usize) -> u64 {
     } = p;
     for k in 0..times {
         ids[good] = wrong(good, k);
-        p = sum.hear(p.give_up(WorkerNo(1), &ids[..count]));
+        play_on!(sum, p, p.give_up(WorkerNo(1), &ids[..count]));
         if count == good {
             p.workers[0] = me;
             p.sets[0] = set;
             p.states = states;
         }
     }
-    sum.add_record(&p);
+    sum.add_record(p);
     sum.0
 }
 

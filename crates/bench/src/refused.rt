@@ -16,8 +16,8 @@ pub extern "C" fn engine_refused(times: u64, rule: usize) -> u64 {
         } else {
             p.workers[7].max = past;
         }
-        p = sum.hear(p.hire(WorkerNo(1)));
+        play_on!(sum, p, p.hire(WorkerNo(1)));
     }
-    sum.add_record(&p);
+    sum.add_record(p);
     sum.0
 }

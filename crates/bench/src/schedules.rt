@@ -12,7 +12,7 @@ fn play(text: &[u8], places: &[u32], sum: &mut Checksum) {
         pool = turn.pool;
         sum.add_all(&line[..turn.written]);
     }
-    sum.add_record(&pool);
+    sum.add_record(pool);
 }
 
 // The whole text, read and played so many times over.
