@@ -1,7 +1,7 @@
 // A checksum of answers, records and lists.
 use pool::{Answer, Pool};
 
-#[derive(Clone, Copy)]
+#[derive(Clone, Copy, Debug, PartialEq, Eq)]
 pub struct Checksum(pub u64);
 
 // The answer as one number.

@@ -34,6 +34,7 @@ fn give_up(run: &mut Run, before: u8) {
 // Whoever is not idle advances, in turn. Every 40 turns each of workers 5 to 8 begins to stand one of its guards down.
 fn take_turns(run: &mut Run, list: &mut [u32]) {
     for turn in 0..TURNS {
+        // Kept: a worker's number and no iterator, since the pool is handed into each call.
         for k in 0..8u32 {
             let worker = WorkerNo(k + 1);
             if run.pool.workers[k as usize].label != 0 {

@@ -104,6 +104,7 @@ impl IdSet {
     }
 
     // How many members there are.
+    // Kept: the four words written out, here and below, since the proof of a `sum` over them did not close, and a loop of four says no more.
     pub fn size(self) -> u32
         ensures { result ≡ size_of self }
     {

@@ -15,7 +15,7 @@ use printed::Page;
 use schedule::Unread;
 
 // The record after a line, and how many bytes it printed.
-#[derive(Clone, Copy)]
+#[derive(Clone, Copy, Debug, PartialEq, Eq)]
 pub struct Turn {
     pub pool: Pool,
     pub written: usize,

@@ -7,6 +7,7 @@ ghost use Rattle.pool.specs.ForProofs.Calls.{answered};
 use crate::{Answer, Refusal, Refused};
 
 impl Refusal {
+    // Kept: a method with the paper's table, and no discriminants, since its contract and Demand1 (one_number) name it.
     pub fn number(self) -> u32
         ensures { result ≡ number_of self }
     {

@@ -7,7 +7,7 @@ ghost use Rattle.pool.specs.Steps.{handed};
 
 use idset::{IdSet, next_mark};
 
-// Whether every member is leaving.
+// Whether every member is leaving. A walk over a set holds one word at a time, and goes from mark to mark in it.
 pub(crate) fn all_leaving(s: IdSet, states: &[u8; 256]) -> bool
     ensures { result ≡ all_below 256 (λ j. not (member_of s (suc j)) || eqb (get_or states.now j 0) 2) }
 {

@@ -30,8 +30,9 @@ pub struct GuardNo(pub u32);
 #[derive(Clone, Copy, Debug, PartialEq, Eq)]
 pub struct BufferId(pub u32);
 
-// Labels, states and employers are plain numbers: a damaged record can be written down too. Guard i is entry i of its arrays, buffer id
-// is entry id - 1 of the states, and worker no is entry no - 1 of the workers and of the sets.
+// Guard i is entry i of its arrays, buffer id is entry id - 1 of the states, and worker no is entry no - 1 of the workers and of the sets.
+// Kept: labels, states and employers are plain numbers, since every call takes any record (Demand1, Demand2) and a damaged one can be written down.
+// Kept: an array for each field of a guard, and the sets beside the workers, since each scan reads one array as vector code.
 #[derive(Clone, Copy, Debug, PartialEq, Eq)]
 pub struct Pool {
     pub w: u32,

@@ -14,7 +14,7 @@ use worker::lent::advance_lent;
 use worker::{Slot, Worker};
 
 impl Pool {
-    // Kept: labels are numbers, so the line is found by a `match` on one, as the paper's table has it.
+    // Kept: a `match` on a number, as in the paper's table, since labels are numbers in the record.
     pub(crate) fn line(&mut self, k: usize, out: &mut [u32]) -> Result<Answer, Refused>
         requires { Stands self.old k }
         ensures outcome { answering (answered result) self.new ≡ after_check (line_check (worker_at self.old k).label k self.old (length out.old)) self.old (line_of (worker_at self.old k).label k self.old) }

@@ -1,5 +1,6 @@
-// The advance of a worker's registers, a method for each label. What else the labels read comes in as plain values, as the paper has it: MAXG,
-// the posted id and the slot of guard i, and whether that id is in the worker's set.
+// The advance of a worker's registers, a method for each label.
+// Kept: what else the labels read comes in as plain values and no struct, as the scope words the lent form: MAXG, the posted id and the slot of guard i, and whether
+// that id is in the worker's set.
 ghost use Rattle.std.specs.Prelude.{◌≡◌, ◌<◌};
 ghost use Rattle.worker.specs.Registers.{largest};
 ghost use Rattle.worker.specs.Steps.{at4, at12, at13, at15, at22, at25, at31, step_of};
@@ -8,7 +9,7 @@ use super::{Slot, Worker};
 
 impl Worker {
     // One advance: nothing at any other label, and where a count could not go up.
-    // Kept: the label is a number and not an enum, since any number can stand in a record that is handed in.
+    // Kept: a `match` on a number, since any number can stand in a record that is handed in (Demand1), and the paper's table goes by it.
     #[tactic(auto, using(crate::proofs::Laws::steps))]
     pub fn step(self, maxg: u32, posted: u32, member: bool, slot: Slot) -> Option<Worker>
         ensures { result ≡ step_of self maxg posted member slot }
