@@ -31,10 +31,8 @@ fn tell<D: FnOnce(&mut Pool), C: FnOnce(Pool) -> Answer>(
 
 // The soundness test by itself, as an answer.
 fn soundness(pool: Pool) -> Answer {
-    match pool.soundness() {
-        Ok(()) => Answer::Clear,
-        Err(refused) => refused.into(),
-    }
+    pool.soundness()
+        .map_or_else(|refused| refused.into(), |()| Answer::Clear)
 }
 
 fn counts(rt: &impl Print) -> io::Result<()> {

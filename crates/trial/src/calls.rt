@@ -17,14 +17,6 @@ pub enum Call {
     Sound,
 }
 
-// What the soundness test found, as an answer.
-fn sound_answer(pool: Pool) -> Answer {
-    match pool.soundness() {
-        Ok(()) => Answer::Clear,
-        Err(refused) => refused.into(),
-    }
-}
-
 impl Call {
     // The call that a line makes, if its word is that of a call and has as many numbers as that takes. The commonest comes first.
     pub fn of(word: &[u8], numbers: &[u32]) -> Option<Call> {
@@ -61,7 +53,9 @@ impl Call {
             Call::Size(w) => pool.set_size(w),
             Call::Leaving => pool.leaving_count(),
             Call::Audit => pool.audit(),
-            Call::Sound => sound_answer(pool),
+            Call::Sound => pool
+                .soundness()
+                .map_or_else(|refused| refused.into(), |()| Answer::Clear),
         };
         Outcome { answer, pool }
     }
