@@ -56,6 +56,7 @@ fn passed(s: &[u8], at: usize) -> usize
 {
     let mut i = at;
     let mut opens: usize = 0;
+    // Kept: `while`, here and below, since where the next line starts is what the reading of this one answers, and no range has it.
     while i < s.len() {
         let next = grammar::after(s, i);
         let kind = grammar::kind_at(s, i);
