@@ -12,14 +12,19 @@ use std::io;
 // Kept: a `BufWriter` would take heap, and when it is dropped it writes once more after a write that failed.
 type Page = ArrayVec<u8, 65536>;
 
-// Puts a line into the page. Where it has no room, both are written out.
-fn print(rt: &impl Print, page: &mut Page, line: &[u8]) -> io::Result<()> {
-    if page.try_extend_from_slice(line).is_ok() {
-        return Ok(());
+// A line is shorter than half a page.
+const HALF: usize = 32768;
+
+// Puts a line into the page, once what is there is written out where it is half a page or more.
+fn print(rt: &impl Print, page: &mut Page, line: &[u8]) -> io::Result<()>
+    requires { length line.now ≤ HALF }
+{
+    if HALF <= page.len() {
+        rt.write_all(page.as_slice())?;
+        page.clear();
     }
-    rt.write_all(page.as_slice())?;
-    page.clear();
-    rt.write_all(line)
+    page.try_extend_from_slice(line).unwrap();
+    Ok(())
 }
 
 // The calls at the places, one after the other.

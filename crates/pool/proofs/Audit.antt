@@ -62,6 +62,3 @@ module _ (p : Pool) where
         (ne_eqb (places_of p id) (wanted_of p id) (λ e. n (sym places ∙ e ∙ sym (byte_one (eqb (state_of p id) 2)))))
         (ap (fault id) (sym places))
         ∙ (rw one_more at h)
-
--- for what the search answers: `search (needs, audits)`
-pub ruleset audits = (rest_none, rest_fault)

@@ -1,5 +1,5 @@
 // One advance of a worker: the check, and the line of the label that it stands at.
-ghost use Rattle.std.specs.Prelude.{◌≡◌, length};
+ghost use Rattle.std.specs.Prelude.{◌≡◌};
 ghost use Rattle.pool.specs.Answers.{told, answering};
 ghost use Rattle.pool.specs.Steps.{advance_of, list_after};
 ghost use Rattle.pool.specs.ForProofs.Calls.{answered};

@@ -31,7 +31,7 @@ pub struct GuardNo(pub u32);
 pub struct BufferId(pub u32);
 
 // Guard i is entry i of its arrays, buffer id is entry id - 1 of the states, and worker no is entry no - 1 of the workers and of the sets.
-// Kept: labels, states and employers are plain numbers, since every call takes any record (Demand1, Demand2) and a damaged one can be written down.
+// Kept: labels, states, employers and ids (0 for none) are plain numbers, since every call takes any record (Demand1, Demand2) and a damaged one can be written down.
 // Kept: an array for each field of a guard, and the sets beside the workers, since each scan reads one array as vector code.
 #[derive(Clone, Copy, Debug, PartialEq, Eq)]
 pub struct Pool {

@@ -7,10 +7,6 @@ use lib.ListN.{length, length-append}
 use Rattle.tables.specs.Write.{write_at}
 use Rattle.tables.proofs.Laws.{write_none, write_append, write_length}
 
--- a part written, then the next
-pub put_both : (t w v a b : List ℕ) (at to r : ℕ) → to ≡ at + length a → w ≡ write_at t at a → r ≡ to + length b → v ≡ write_at w to b → (r ≡ at + length (a ++ b)) × (v ≡ write_at t at (a ++ b))
-put_both t w v a b at to r p e q f = (omega (arith, length-append a b), f ∙ (rw (e, p) (sym (write_append t at a b))))
-
 -- in the table t from place k on the list l, as in t₀ from k₀ on the list l₀
 pub record Left (t₀ : List ℕ) (k₀ : ℕ) (l₀ t : List ℕ) (k : ℕ) (l : List ℕ) : Type 0 where
   pub place : k + length l ≡ k₀ + length l₀

@@ -14,7 +14,8 @@ pub struct Slot {
     pub version: u32,
 }
 
-// A worker's label and registers: plain numbers, so that a damaged record can be written down.
+// A worker's label and registers.
+// Kept: plain numbers, 0 for no id, since every call takes any record (Demand1, Demand2) and a damaged one can be written down.
 #[derive(Clone, Copy, Debug, PartialEq, Eq)]
 pub struct Worker {
     pub label: u32,

@@ -1,6 +1,6 @@
 // The advance of a worker's registers, a method for each label.
-// Kept: what else the labels read comes in as plain values and no struct, as the scope words the lent form: MAXG, the posted id and the slot of guard i, and whether
-// that id is in the worker's set.
+// What else they read comes in: MAXG, the posted id and the slot of guard i, and whether that id is in the worker's set.
+// Kept: as plain values and no struct, in which `advance_lent` and the theorem `Lent` would have to name each of them once more.
 ghost use Rattle.std.specs.Prelude.{◌≡◌, ◌<◌};
 ghost use Rattle.worker.specs.Registers.{largest};
 ghost use Rattle.worker.specs.Steps.{at4, at12, at13, at15, at22, at25, at31, step_of};
