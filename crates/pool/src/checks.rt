@@ -3,30 +3,33 @@ ghost use Rattle.std.specs.Prelude.{◌≡◌, ◌<◌, ◌≤◌, ◌-◌, IfOk
 ghost use Rattle.pool.specs.Answers.{verdict};
 ghost use Rattle.pool.specs.Checks.{worker_check, begin_check, guard_check, id_check, fire_check, post_check, take_check, ask_check};
 
+use crate::seat::Seat;
 use crate::{BufferId, GuardNo, Pool, Refusal, Refused, WorkerNo};
 
 impl Pool {
     // 21 to 25, 3.
     #[tactic(auto, using(crate::proofs::Told::checks), unfolding(crate::specs::Checks::worker_check))]
-    pub(crate) fn worker_check(&self, w: WorkerNo) -> Result<usize, Refused>
+    pub(crate) fn worker_check(&self, w: WorkerNo) -> Result<Seat, Refused>
         ensures check { verdict result ≡ worker_check self.now w }
-        ensures entry { IfOk result (λ k. (k < 8) × (k ≡ w.0 - 1)) }
+        ensures entry { IfOk result (λ k. k.at ≡ w.0 - 1) }
     {
         self.sound_check()?;
         if w.0 < 1 || self.w < w.0 {
             return Err(Refusal::NoSuchWorker.at(0));
         }
-        Ok((w.0 - 1) as usize)
+        Ok(Seat {
+            at: (w.0 - 1) as usize,
+        })
     }
 
     // 21 to 25, 3, 4.
     #[tactic(auto, using(crate::proofs::Told::checks), unfolding(crate::specs::Checks::begin_check))]
-    pub(crate) fn begin_check(&self, w: WorkerNo) -> Result<usize, Refused>
+    pub(crate) fn begin_check(&self, w: WorkerNo) -> Result<Seat, Refused>
         ensures check { verdict result ≡ begin_check self.now w }
-        ensures entry { IfOk result (λ k. (k < 8) × (k ≡ w.0 - 1)) }
+        ensures entry { IfOk result (λ k. k.at ≡ w.0 - 1) }
     {
         let k = self.worker_check(w)?;
-        if self.workers[k].label != 0 {
+        if self.workers[k.at].label != 0 {
             return Err(Refusal::WorkerNotIdle.at(0));
         }
         Ok(k)
@@ -63,9 +66,9 @@ impl Pool {
     }
 
     #[tactic(auto, using(crate::proofs::Told::checks), unfolding(crate::specs::Checks::fire_check))]
-    pub(crate) fn fire_check(&self, w: WorkerNo, g: GuardNo) -> Result<(usize, usize), Refused>
+    pub(crate) fn fire_check(&self, w: WorkerNo, g: GuardNo) -> Result<(Seat, usize), Refused>
         ensures check { verdict result ≡ fire_check self.now w g }
-        ensures entries { IfOk result (λ e. (e.0 < 8) × (e.0 ≡ w.0 - 1) × (e.1 < 32) × (e.1 ≡ g.0)) }
+        ensures entries { IfOk result (λ e. (e.0.at ≡ w.0 - 1) × (e.1 < 32) × (e.1 ≡ g.0)) }
     {
         let k = self.begin_check(w)?;
         let i = self.guard_check(w, g)?;
@@ -76,9 +79,9 @@ impl Pool {
     }
 
     #[tactic(auto, using(crate::proofs::Told::checks), unfolding(crate::specs::Checks::post_check))]
-    pub(crate) fn post_check(&self, w: WorkerNo, g: GuardNo, b: BufferId) -> Result<usize, Refused>
+    pub(crate) fn post_check(&self, w: WorkerNo, g: GuardNo, b: BufferId) -> Result<Seat, Refused>
         ensures check { verdict result ≡ post_check self.now w g b }
-        ensures entry { IfOk result (λ k. (k < 8) × (k ≡ w.0 - 1)) }
+        ensures entry { IfOk result (λ k. k.at ≡ w.0 - 1) }
     {
         let k = self.begin_check(w)?;
         self.guard_check(w, g)?;

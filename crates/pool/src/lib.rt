@@ -15,6 +15,7 @@ mod lists;
 mod make;
 mod questions;
 mod search;
+mod seat;
 mod sound;
 
 use idset::IdSet;
