@@ -43,7 +43,7 @@ impl Pool {
         ensures { answering (answered result) self.new ≡ fire_of self.old w g }
     {
         let (k, i) = self.fire_check(w, g)?;
-        self.employer[i] = 0;
+        self.employer[i.at] = 0;
         self.workers[k.at] = Worker {
             i: g.0,
             label: 7,
@@ -108,8 +108,8 @@ impl Pool {
     fn take_buffer(&mut self, b: BufferId) -> Result<Answer, Refused>
         ensures { answering (answered result) self.new ≡ take_of self.old b }
     {
-        let at = self.take_check(b)?;
-        self.states[at] = 1;
+        let k = self.take_check(b)?;
+        self.states[k.at] = 1;
         Ok(Answer::Accepted)
     }
 
@@ -118,7 +118,7 @@ impl Pool {
         ensures { told result ≡ ask_of self w b }
     {
         let answer = match self.ask_check(w, b) {
-            Ok(at) if self.states[at] == 1 => Answer::Yes,
+            Ok(k) if self.states[k.at] == 1 => Answer::Yes,
             Ok(_) => Answer::No,
             Err(refused) => Answer::from(refused),
         };

@@ -8,6 +8,7 @@ mod answers;
 mod begins;
 mod broken;
 mod checks;
+mod entry;
 mod every;
 mod handback;
 mod lines;
@@ -15,7 +16,6 @@ mod lists;
 mod make;
 mod questions;
 mod search;
-mod seat;
 mod sound;
 
 use idset::IdSet;

@@ -1,4 +1,4 @@
-// The table of labels, a method for each line, on the record where it stands.
+// The table of labels, a method for each line, on the record where it stands. k is the worker's entry.
 ghost use Rattle.std.specs.Prelude.{◌≡◌, ◌+◌, ◌<◌, eqb, length, OnOk, OnErr};
 ghost use Rattle.basics.specs.Pick.{when};
 ghost use Rattle.pool.specs.Answers.{said, answering, after_check, verdict, fine, refuse};
@@ -7,8 +7,8 @@ ghost use Rattle.pool.specs.Steps.{largest_version, line2, line5, line6, line7, 
 ghost use Rattle.pool.specs.ForProofs.Calls.{answered};
 ghost use Rattle.pool.specs.ForProofs.Ready.{Ready, Stands, own_step, list_of};
 
+use crate::entry::Entry;
 use crate::handback::{all_leaving, hand};
-use crate::seat::Seat;
 use crate::{Answer, GuardNo, Pool, Refusal, Refused};
 use idset::IdSet;
 use worker::lent::advance_lent;
@@ -16,7 +16,7 @@ use worker::{Slot, Worker};
 
 impl Pool {
     // Kept: a `match` on a number, as in the paper's table, since labels are numbers in the record.
-    pub(crate) fn line(&mut self, k: Seat, out: &mut [u32]) -> Result<Answer, Refused>
+    pub(crate) fn line(&mut self, k: Entry<8>, out: &mut [u32]) -> Result<Answer, Refused>
         requires { Stands self.old k.at }
         ensures outcome { answering (answered result) self.new ≡ after_check (line_check (worker_at self.old k.at).label k.at self.old (length out.old)) self.old (line_of (worker_at self.old k.at).label k.at self.old) }
         ensures list { out.new ≡ list_of k.at self.old out.old }
@@ -39,7 +39,7 @@ impl Pool {
 
     // The worker goes on to label l.
     #[tactic(auto, unfolding(crate::specs::Steps::puts))]
-    fn goes(&mut self, k: Seat, l: u32) -> Answer
+    fn goes(&mut self, k: Entry<8>, l: u32) -> Answer
         ensures { answering (said result) self.new ≡ goes k.at l self.old }
     {
         self.workers[k.at].label = l;
@@ -48,7 +48,7 @@ impl Pool {
 
     // An end: idle, registers 0, set empty.
     #[tactic(auto, unfolding(crate::specs::Steps::ends))]
-    fn ends(&mut self, k: Seat, answer: Answer) -> Answer
+    fn ends(&mut self, k: Entry<8>, answer: Answer) -> Answer
         ensures { answering (said result) self.new ≡ ends k.at (said answer) self.old }
     {
         self.workers[k.at] = Worker::idle();
@@ -73,7 +73,7 @@ impl Pool {
     }
 
     #[tactic(auto, using(crate::proofs::Told::begins), unfolding(crate::specs::Steps::line2, crate::specs::Steps::puts))]
-    fn line2(&mut self, k: Seat) -> Answer
+    fn line2(&mut self, k: Entry<8>) -> Answer
         requires { Ready self.old k.at }
         ensures { answering (said result) self.new ≡ line2 k.at self.old }
     {
@@ -90,7 +90,7 @@ impl Pool {
         Answer::At(me.label)
     }
 
-    fn line5(&mut self, k: Seat) -> Answer
+    fn line5(&mut self, k: Entry<8>) -> Answer
         ensures { answering (said result) self.new ≡ line5 k.at self.old }
     {
         if self.maxg == self.workers[k.at].max {
@@ -99,7 +99,7 @@ impl Pool {
         self.goes(k, 4)
     }
 
-    fn line6(&mut self, k: Seat) -> Answer
+    fn line6(&mut self, k: Entry<8>) -> Answer
         requires { Ready self.old k.at }
         ensures { answering (said result) self.new ≡ line6 k.at self.old }
     {
@@ -108,7 +108,7 @@ impl Pool {
         self.ends(k, Answer::Hired(GuardNo(i)))
     }
 
-    fn line7(&mut self, k: Seat) -> Answer
+    fn line7(&mut self, k: Entry<8>) -> Answer
         requires { Ready self.old k.at }
         ensures { answering (said result) self.new ≡ line7 k.at self.old }
     {
@@ -116,7 +116,7 @@ impl Pool {
         self.goes(k, 8)
     }
 
-    fn line9(&mut self, k: Seat) -> Answer
+    fn line9(&mut self, k: Entry<8>) -> Answer
         requires { Ready self.old k.at }
         ensures { answering (said result) self.new ≡ line9 k.at self.old }
     {
@@ -125,7 +125,7 @@ impl Pool {
     }
 
     // The worker's own step, made where its registers stand.
-    fn own_line(&mut self, k: Seat) -> Answer
+    fn own_line(&mut self, k: Entry<8>) -> Answer
         ensures { answering (said result) self.new ≡ puts k.at (own_step k.at self.old) self.old }
     {
         let i = self.workers[k.at].i as usize;
@@ -138,7 +138,7 @@ impl Pool {
         Answer::At(me.label)
     }
 
-    fn line18(&mut self, k: Seat) -> Result<Answer, Refused>
+    fn line18(&mut self, k: Entry<8>) -> Result<Answer, Refused>
         requires { Ready self.old k.at }
         ensures { answering (answered result) self.new ≡ after_check (version_check (unchanged k.at self.old) k.at self.old) self.old (line18 k.at self.old) }
     {
@@ -153,7 +153,7 @@ impl Pool {
         Ok(self.goes(k, 31))
     }
 
-    fn line28(&mut self, k: Seat) -> Result<Answer, Refused>
+    fn line28(&mut self, k: Entry<8>) -> Result<Answer, Refused>
         requires { Ready self.old k.at }
         ensures { answering (answered result) self.new ≡ after_check (version_check (collects k.at self.old) k.at self.old) self.old (line28 k.at self.old) }
     {
@@ -185,7 +185,7 @@ impl Pool {
     }
 
     // The set's buffers go back, all or none.
-    fn line32(&mut self, k: Seat, out: &mut [u32]) -> Result<Answer, Refused>
+    fn line32(&mut self, k: Entry<8>, out: &mut [u32]) -> Result<Answer, Refused>
         ensures outcome { answering (answered result) self.new ≡ after_check (hand_check k.at self.old (length out.old)) self.old (line32 k.at self.old) }
         ensures list { out.new ≡ list_after_check (hand_check k.at self.old (length out.old)) out.old (handed (set_at self.old k.at) out.old) }
     {
