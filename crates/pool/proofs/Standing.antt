@@ -64,7 +64,7 @@ ready p k l s e short =
     let u = in_use s in
     let below = at_guard p.g l (worker_at p k) u.place e short in
     let sizes = sizes_of p s.sound in
-    record { k_below = worker_below s; i_below = omega arith; attempts_most = leb-true _ _ u.attempts }
+    record { i_below = omega arith; attempts_most = leb-true _ _ u.attempts }
 
 -- ---- the last label
 

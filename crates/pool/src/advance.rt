@@ -22,7 +22,7 @@ impl Pool {
         ensures list { out.new ≡ list_after self.old w out.old }
     {
         let k = self.worker_check(w)?;
-        if self.workers[k].label == 0 {
+        if self.workers[k.at].label == 0 {
             return Err(Refusal::WorkerIdle.at(0));
         }
         self.line(k, out)

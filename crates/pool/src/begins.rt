@@ -23,10 +23,10 @@ impl Pool {
         ensures { answering (answered result) self.new ≡ hire_of self.old w }
     {
         let k = self.begin_check(w)?;
-        self.workers[k] = Worker {
+        self.workers[k.at] = Worker {
             i: 0,
             label: 2,
-            ..self.workers[k]
+            ..self.workers[k.at]
         };
         Ok(Answer::Accepted)
     }
@@ -43,11 +43,11 @@ impl Pool {
         ensures { answering (answered result) self.new ≡ fire_of self.old w g }
     {
         let (k, i) = self.fire_check(w, g)?;
-        self.employer[i] = 0;
-        self.workers[k] = Worker {
+        self.employer[i.at] = 0;
+        self.workers[k.at] = Worker {
             i: g.0,
             label: 7,
-            ..self.workers[k]
+            ..self.workers[k.at]
         };
         Ok(Answer::Accepted)
     }
@@ -65,11 +65,11 @@ impl Pool {
         ensures { answering (answered result) self.new ≡ post_of self.old w g b }
     {
         let k = self.post_check(w, g, b)?;
-        self.workers[k] = Worker {
+        self.workers[k.at] = Worker {
             i: g.0,
             v: b.0,
             label: 9,
-            ..self.workers[k]
+            ..self.workers[k.at]
         };
         Ok(Answer::Accepted)
     }
@@ -88,11 +88,11 @@ impl Pool {
         let k = self.begin_check(w)?;
         let set = self.list_check(ids)?;
         leaving(&mut self.states, ids);
-        self.sets[k] = set;
-        self.workers[k] = Worker {
+        self.sets[k.at] = set;
+        self.workers[k.at] = Worker {
             i: 0,
             label: 12,
-            ..self.workers[k]
+            ..self.workers[k.at]
         };
         Ok(Answer::Accepted)
     }
@@ -108,8 +108,8 @@ impl Pool {
     fn take_buffer(&mut self, b: BufferId) -> Result<Answer, Refused>
         ensures { answering (answered result) self.new ≡ take_of self.old b }
     {
-        let at = self.take_check(b)?;
-        self.states[at] = 1;
+        let k = self.take_check(b)?;
+        self.states[k.at] = 1;
         Ok(Answer::Accepted)
     }
 
@@ -118,7 +118,7 @@ impl Pool {
         ensures { told result ≡ ask_of self w b }
     {
         let answer = match self.ask_check(w, b) {
-            Ok(at) if self.states[at] == 1 => Answer::Yes,
+            Ok(k) if self.states[k.at] == 1 => Answer::Yes,
             Ok(_) => Answer::No,
             Err(refused) => Answer::from(refused),
         };

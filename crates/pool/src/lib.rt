@@ -8,6 +8,7 @@ mod answers;
 mod begins;
 mod broken;
 mod checks;
+mod entry;
 mod every;
 mod handback;
 mod lines;

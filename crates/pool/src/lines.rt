@@ -1,4 +1,4 @@
-// The table of labels, a method for each line, on the record where it stands. k is the worker's number less 1.
+// The table of labels, a method for each line, on the record where it stands. k is the worker's entry.
 ghost use Rattle.std.specs.Prelude.{◌≡◌, ◌+◌, ◌<◌, eqb, length, OnOk, OnErr};
 ghost use Rattle.basics.specs.Pick.{when};
 ghost use Rattle.pool.specs.Answers.{said, answering, after_check, verdict, fine, refuse};
@@ -7,6 +7,7 @@ ghost use Rattle.pool.specs.Steps.{largest_version, line2, line5, line6, line7, 
 ghost use Rattle.pool.specs.ForProofs.Calls.{answered};
 ghost use Rattle.pool.specs.ForProofs.Ready.{Ready, Stands, own_step, list_of};
 
+use crate::entry::Entry;
 use crate::handback::{all_leaving, hand};
 use crate::{Answer, GuardNo, Pool, Refusal, Refused};
 use idset::IdSet;
@@ -15,12 +16,12 @@ use worker::{Slot, Worker};
 
 impl Pool {
     // Kept: a `match` on a number, as in the paper's table, since labels are numbers in the record.
-    pub(crate) fn line(&mut self, k: usize, out: &mut [u32]) -> Result<Answer, Refused>
-        requires { Stands self.old k }
-        ensures outcome { answering (answered result) self.new ≡ after_check (line_check (worker_at self.old k).label k self.old (length out.old)) self.old (line_of (worker_at self.old k).label k self.old) }
-        ensures list { out.new ≡ list_of k self.old out.old }
+    pub(crate) fn line(&mut self, k: Entry<8>, out: &mut [u32]) -> Result<Answer, Refused>
+        requires { Stands self.old k.at }
+        ensures outcome { answering (answered result) self.new ≡ after_check (line_check (worker_at self.old k.at).label k.at self.old (length out.old)) self.old (line_of (worker_at self.old k.at).label k.at self.old) }
+        ensures list { out.new ≡ list_of k.at self.old out.old }
     {
-        match self.workers[k].label {
+        match self.workers[k.at].label {
             2 => Ok(self.line2(k)),
             5 => Ok(self.line5(k)),
             6 => Ok(self.line6(k)),
@@ -38,22 +39,20 @@ impl Pool {
 
     // The worker goes on to label l.
     #[tactic(auto, unfolding(crate::specs::Steps::puts))]
-    fn goes(&mut self, k: usize, l: u32) -> Answer
-        requires { k < 8 }
-        ensures { answering (said result) self.new ≡ goes k l self.old }
+    fn goes(&mut self, k: Entry<8>, l: u32) -> Answer
+        ensures { answering (said result) self.new ≡ goes k.at l self.old }
     {
-        self.workers[k].label = l;
+        self.workers[k.at].label = l;
         Answer::At(l)
     }
 
     // An end: idle, registers 0, set empty.
     #[tactic(auto, unfolding(crate::specs::Steps::ends))]
-    fn ends(&mut self, k: usize, answer: Answer) -> Answer
-        requires { k < 8 }
-        ensures { answering (said result) self.new ≡ ends k (said answer) self.old }
+    fn ends(&mut self, k: Entry<8>, answer: Answer) -> Answer
+        ensures { answering (said result) self.new ≡ ends k.at (said answer) self.old }
     {
-        self.workers[k] = Worker::idle();
-        self.sets[k] = IdSet::empty();
+        self.workers[k.at] = Worker::idle();
+        self.sets[k.at] = IdSet::empty();
         answer
     }
 
@@ -74,11 +73,11 @@ impl Pool {
     }
 
     #[tactic(auto, using(crate::proofs::Told::begins), unfolding(crate::specs::Steps::line2, crate::specs::Steps::puts))]
-    fn line2(&mut self, k: usize) -> Answer
-        requires { Ready self.old k }
-        ensures { answering (said result) self.new ≡ line2 k self.old }
+    fn line2(&mut self, k: Entry<8>) -> Answer
+        requires { Ready self.old k.at }
+        ensures { answering (said result) self.new ≡ line2 k.at self.old }
     {
-        let i = self.workers[k].i;
+        let i = self.workers[k.at].i;
         if !self.taken[i as usize] {
             self.taken[i as usize] = true;
             return self.goes(k, 4);
@@ -86,81 +85,79 @@ impl Pool {
         if i + 1 == self.g {
             return self.ends(k, Answer::NoneFound);
         }
-        let me = &mut self.workers[k];
+        let me = &mut self.workers[k.at];
         me.i = i + 1;
         Answer::At(me.label)
     }
 
-    fn line5(&mut self, k: usize) -> Answer
-        requires { k < 8 }
-        ensures { answering (said result) self.new ≡ line5 k self.old }
+    fn line5(&mut self, k: Entry<8>) -> Answer
+        ensures { answering (said result) self.new ≡ line5 k.at self.old }
     {
-        if self.maxg == self.workers[k].max {
-            self.maxg = self.workers[k].i;
+        if self.maxg == self.workers[k.at].max {
+            self.maxg = self.workers[k.at].i;
         }
         self.goes(k, 4)
     }
 
-    fn line6(&mut self, k: usize) -> Answer
-        requires { Ready self.old k }
-        ensures { answering (said result) self.new ≡ line6 k self.old }
+    fn line6(&mut self, k: Entry<8>) -> Answer
+        requires { Ready self.old k.at }
+        ensures { answering (said result) self.new ≡ line6 k.at self.old }
     {
-        let i = self.workers[k].i;
-        self.employer[i as usize] = (k + 1) as u32;
+        let i = self.workers[k.at].i;
+        self.employer[i as usize] = (k.at + 1) as u32;
         self.ends(k, Answer::Hired(GuardNo(i)))
     }
 
-    fn line7(&mut self, k: usize) -> Answer
-        requires { Ready self.old k }
-        ensures { answering (said result) self.new ≡ line7 k self.old }
+    fn line7(&mut self, k: Entry<8>) -> Answer
+        requires { Ready self.old k.at }
+        ensures { answering (said result) self.new ≡ line7 k.at self.old }
     {
-        self.taken[self.workers[k].i as usize] = false;
+        self.taken[self.workers[k.at].i as usize] = false;
         self.goes(k, 8)
     }
 
-    fn line9(&mut self, k: usize) -> Answer
-        requires { Ready self.old k }
-        ensures { answering (said result) self.new ≡ line9 k self.old }
+    fn line9(&mut self, k: Entry<8>) -> Answer
+        requires { Ready self.old k.at }
+        ensures { answering (said result) self.new ≡ line9 k.at self.old }
     {
-        self.posted[self.workers[k].i as usize] = self.workers[k].v;
+        self.posted[self.workers[k.at].i as usize] = self.workers[k.at].v;
         self.goes(k, 10)
     }
 
     // The worker's own step, made where its registers stand.
-    fn own_line(&mut self, k: usize) -> Answer
-        requires { k < 8 }
-        ensures { answering (said result) self.new ≡ puts k (own_step k self.old) self.old }
+    fn own_line(&mut self, k: Entry<8>) -> Answer
+        ensures { answering (said result) self.new ≡ puts k.at (own_step k.at self.old) self.old }
     {
-        let i = self.workers[k].i as usize;
+        let i = self.workers[k.at].i as usize;
         let posted = self.posted_at(i);
         let slot = self.slot_at(i);
-        let member = self.sets[k].has(posted);
+        let member = self.sets[k.at].has(posted);
         let maxg = self.maxg;
-        let me = &mut self.workers[k];
+        let me = &mut self.workers[k.at];
         advance_lent(me, maxg, posted, member, slot);
         Answer::At(me.label)
     }
 
-    fn line18(&mut self, k: usize) -> Result<Answer, Refused>
-        requires { Ready self.old k }
-        ensures { answering (answered result) self.new ≡ after_check (version_check (unchanged k self.old) k self.old) self.old (line18 k self.old) }
+    fn line18(&mut self, k: Entry<8>) -> Result<Answer, Refused>
+        requires { Ready self.old k.at }
+        ensures { answering (answered result) self.new ≡ after_check (version_check (unchanged k.at self.old) k.at self.old) self.old (line18 k.at self.old) }
     {
-        let me = self.workers[k];
+        let me = self.workers[k.at];
         let i = me.i as usize;
         if self.slot_at(i) != me.h {
             return Ok(self.goes(k, 22));
         }
         // The slot takes v, and the set what the slot held.
         self.fill(i, me.v)?;
-        self.sets[k] = self.sets[k].without(me.v).with(me.h.id);
+        self.sets[k.at] = self.sets[k.at].without(me.v).with(me.h.id);
         Ok(self.goes(k, 31))
     }
 
-    fn line28(&mut self, k: usize) -> Result<Answer, Refused>
-        requires { Ready self.old k }
-        ensures { answering (answered result) self.new ≡ after_check (version_check (collects k self.old) k self.old) self.old (line28 k self.old) }
+    fn line28(&mut self, k: Entry<8>) -> Result<Answer, Refused>
+        requires { Ready self.old k.at }
+        ensures { answering (answered result) self.new ≡ after_check (version_check (collects k.at self.old) k.at self.old) self.old (line28 k.at self.old) }
     {
-        let me = self.workers[k];
+        let me = self.workers[k.at];
         let i = me.i as usize;
         let collects = (me.h.id != 0) & (me.h.id != me.v) & (self.slot_at(i) == me.h);
         if !collects {
@@ -168,7 +165,7 @@ impl Pool {
         }
         // The slot is emptied, and the set takes what it held.
         self.fill(i, 0)?;
-        self.sets[k] = self.sets[k].with(me.h.id);
+        self.sets[k.at] = self.sets[k.at].with(me.h.id);
         Ok(self.goes(k, 31))
     }
 
@@ -188,12 +185,11 @@ impl Pool {
     }
 
     // The set's buffers go back, all or none.
-    fn line32(&mut self, k: usize, out: &mut [u32]) -> Result<Answer, Refused>
-        requires { k < 8 }
-        ensures outcome { answering (answered result) self.new ≡ after_check (hand_check k self.old (length out.old)) self.old (line32 k self.old) }
-        ensures list { out.new ≡ list_after_check (hand_check k self.old (length out.old)) out.old (handed (set_at self.old k) out.old) }
+    fn line32(&mut self, k: Entry<8>, out: &mut [u32]) -> Result<Answer, Refused>
+        ensures outcome { answering (answered result) self.new ≡ after_check (hand_check k.at self.old (length out.old)) self.old (line32 k.at self.old) }
+        ensures list { out.new ≡ list_after_check (hand_check k.at self.old (length out.old)) out.old (handed (set_at self.old k.at) out.old) }
     {
-        let set = self.sets[k];
+        let set = self.sets[k.at];
         if !all_leaving(set, &self.states) {
             return Err(Refusal::MemberNotLeaving.at(0));
         }

@@ -19,11 +19,11 @@ impl Pool {
     {
         let mut met = IdSet::empty();
         for (place, id) in ids.iter().enumerate() {
-            let at = self.id_check(*id, place)?;
+            let k = self.id_check(*id, place)?;
             if mark(&mut met.words, *id) {
                 return Err(Refusal::BufferRepeated.at(place));
             }
-            if self.states[at] != 1 {
+            if self.states[k.at] != 1 {
                 return Err(Refusal::BufferInWrongState.at(place));
             }
         }

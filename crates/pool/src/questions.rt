@@ -24,7 +24,7 @@ impl Pool {
         ensures { said result ≡ set_size_of self w }
     {
         match self.worker_check(w) {
-            Ok(k) => Answer::Count(self.sets[k].size()),
+            Ok(k) => Answer::Count(self.sets[k.at].size()),
             Err(refused) => Answer::from(refused),
         }
     }

@@ -11,7 +11,6 @@ use Rattle.pool.specs.Steps.{i_of, posted_here, slot_here, line_check, handed, l
 
 -- at any label but 12 and 32: the worker stands at a guard
 pub record Ready (p : Pool) (k : ℕ) : Type 0 where
-  pub k_below : k < 8
   pub i_below : i_of p k < 32
   pub attempts_most : (worker_at p k).attempts ≤ 3
 

@@ -31,4 +31,4 @@ returns c =
     let long : length p.states ≡ 256 = search rules in
     after_fine c.list_check.result _ _ p _
     (first_fine c.begin_check.result _ _ _ c.begin_check.ensures.check c.in_ok-k.was c.list_check.ensures.check) c.in_ok-set.was
-    (rw c.in_ok-k.ensures.entry.1 (given_up p (c.args.w.0 - 1) ids _ _ long c.leaving.ensures c.in_ok-set.ensures.met))
+    (rw c.in_ok-k.ensures.entry (given_up p (c.args.w.0 - 1) ids _ _ long c.leaving.ensures c.in_ok-set.ensures.met))

@@ -26,7 +26,7 @@ returns-clause-outcome c =
     let long : length c.args.self.now.states ≡ 256 = search rules in
     let free = rw long at c.hand.ensures.freed in
     after_is _ _ (hands _ c.args.self.now _ _ c.all_leaving.ensures c.if-not-all_leaving.false _ c.size-size.ensures c.if-out-size.false)
-    (c.ends.ensures ∙ handed_back_lem c.args.k c.args.self.now (length c.args.out.now) _ _ c.size-size.ensures free)
+    (c.ends.ensures ∙ handed_back_lem c.args.k.at c.args.self.now (length c.args.out.now) _ _ c.size-size.ensures free)
 
 pub returns-clause-list : goal.returns-clause-list
 returns-clause-list c =

@@ -23,29 +23,29 @@ unfolding advance_of
 returns-then-self-k-eq0-clause-outcome c =
     let named = fine_by c.worker_check.result c.worker_check.ensures.check c.in_ok-k.was in
     same_refused _ 5 _ 0 _ _ c.at.ensures.refusal c.at.ensures.place refl
-    ∙ after_stops _ _ (idle_stops c.args.self.now c.args.w c.args.out.now named (rw c.in_ok-k.ensures.entry.1 at c.if-self-k-eq0.true))
+    ∙ after_stops _ _ (idle_stops c.args.self.now c.args.w c.args.out.now named (rw c.in_ok-k.ensures.entry at c.if-self-k-eq0.true))
 
 pub returns-then-self-k-eq0-clause-list : goal.returns-then-self-k-eq0-clause-list
 unfolding list_after
 returns-then-self-k-eq0-clause-list c =
     let named = fine_by c.worker_check.result c.worker_check.ensures.check c.in_ok-k.was in
-    list_stops _ _ (idle_stops c.args.self.now c.args.w c.args.out.now named (rw c.in_ok-k.ensures.entry.1 at c.if-self-k-eq0.true))
+    list_stops _ _ (idle_stops c.args.self.now c.args.w c.args.out.now named (rw c.in_ok-k.ensures.entry at c.if-self-k-eq0.true))
 
 pub line-requires : goal.line-requires
 line-requires c =
     let named = fine_by c.worker_check.result c.worker_check.ensures.check c.in_ok-k.was in
-    rw c.in_ok-k.ensures.entry.1 (here_stands c.args.self.now c.args.w c.args.out.now named (rw c.in_ok-k.ensures.entry.1 at c.if-self-k-eq0.false))
+    rw c.in_ok-k.ensures.entry (here_stands c.args.self.now c.args.w c.args.out.now named (rw c.in_ok-k.ensures.entry at c.if-self-k-eq0.false))
 
 pub returns-clause-outcome : goal.returns-clause-outcome
 unfolding advance_of
 returns-clause-outcome c =
     let named = fine_by c.worker_check.result c.worker_check.ensures.check c.in_ok-k.was in
-    rw (line_checked c.args.self.now c.args.w c.args.out.now named (rw c.in_ok-k.ensures.entry.1 at c.if-self-k-eq0.false))
-    (rw c.in_ok-k.ensures.entry.1 at c.line.ensures.outcome)
+    rw (line_checked c.args.self.now c.args.w c.args.out.now named (rw c.in_ok-k.ensures.entry at c.if-self-k-eq0.false))
+    (rw c.in_ok-k.ensures.entry at c.line.ensures.outcome)
 
 pub returns-clause-list : goal.returns-clause-list
 unfolding list_after
 returns-clause-list c =
     let named = fine_by c.worker_check.result c.worker_check.ensures.check c.in_ok-k.was in
-    rw (line_checked c.args.self.now c.args.w c.args.out.now named (rw c.in_ok-k.ensures.entry.1 at c.if-self-k-eq0.false))
-    (rw c.in_ok-k.ensures.entry.1 at c.line.ensures.list)
+    rw (line_checked c.args.self.now c.args.w c.args.out.now named (rw c.in_ok-k.ensures.entry at c.if-self-k-eq0.false))
+    (rw c.in_ok-k.ensures.entry at c.line.ensures.list)

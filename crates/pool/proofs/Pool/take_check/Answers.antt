@@ -11,8 +11,8 @@ returns-in_err-sound_check-clause-check c = first_on _ c.in_err-sound_check.was 
 pub id_check-requires : goal.id_check-requires
 id_check-requires c = few_buffers c.args.self.now (fine_by c.sound_check.result c.sound_check.ensures c.in_ok-sound_check.was)
 
-pub returns-in_err-at-clause-check : goal.returns-in_err-at-clause-check
+pub returns-in_err-k-clause-check : goal.returns-in_err-k-clause-check
 unfolding take_check
-returns-in_err-at-clause-check c =
+returns-in_err-k-clause-check c =
     first_fine c.sound_check.result _ _ _ c.sound_check.ensures c.in_ok-sound_check.was
-    (first_on _ c.in_err-at.was c.from_residual-in_err-at.ensures.1 c.id_check.ensures.check _)
+    (first_on _ c.in_err-k.was c.from_residual-in_err-k.ensures.1 c.id_check.ensures.check _)
