@@ -12,7 +12,6 @@ use lib.Bits.{bit_and, bit_or, and_mask, and_le_l, or_lt}
 use Rattle.std.specs.Prelude.{Option, Some, None}
 use Rattle.std.proofs.lemmas.Option.{none-some, some_pair_parts}
 use Rattle.basics.specs.Pick.{when}
-use Rattle.basics.proofs.Picks.{when_yes}
 use Rattle.idset.specs.declared.IdSet.{IdSet}
 use Rattle.idset.specs.Members.{digit, is_id, place_of, member_of, with_of, without_of}
 use Rattle.idset.proofs.Digits.{digit_or, digit_and, digit_not, digit_power}
