@@ -18,9 +18,9 @@ use Rattle.basics.proofs.Count.{count_none, count_front, count_cong}
 use Rattle.idset.specs.declared.IdSet.{IdSet}
 use Rattle.idset.specs.Members.{digit, member_of, size_of, next_mark, ids_of, above, members_of}
 use Rattle.idset.proofs.Members.{member_at}
-use Rattle.idset.proofs.Marks.{Mark, Told, mark_is}
+use Rattle.idset.proofs.NextMark.{Mark, Told, mark_is}
 
-ids_skip : (p : ℕ → Bool) (t n b : ℕ) → ((j : ℕ) → j < t → p (b + j) ≡ false) → ids_of p (t + n) b ≡ ids_of p n (b + t)
+pub ids_skip : (p : ℕ → Bool) (t n b : ℕ) → ((j : ℕ) → j < t → p (b + j) ≡ false) → ids_of p (t + n) b ≡ ids_of p n (b + t)
 unfolding ids_of when
 ids_skip p zero n b f = ap₂ (ids_of p) (zero-add n) (sym (add-zero b))
 ids_skip p (suc t) n b f =
@@ -31,7 +31,7 @@ ids_skip p (suc t) n b f =
     move : (j : ℕ) → suc b + j ≡ b + suc j
     move j = omega arith
 
-ids_hit : (p : ℕ → Bool) (n b : ℕ) → p b ≡ true → ids_of p (suc n) b ≡ b ∷ ids_of p n (suc b)
+pub ids_hit : (p : ℕ → Bool) (n b : ℕ) → p b ≡ true → ids_of p (suc n) b ≡ b ∷ ids_of p n (suc b)
 unfolding ids_of when
 ids_hit p n b e = ap (λ (x : Bool). when x (b ∷ ids_of p n (suc b)) (ids_of p n (suc b))) e
 

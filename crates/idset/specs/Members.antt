@@ -3,6 +3,7 @@ use Rattle.std.specs.Prelude.{◌≡◌, Bool, false, not, ◌&&◌, ◌||◌, L
 use Rattle.basics.specs.Pick.{when}
 use Rattle.basics.specs.Below.{all_below, count_below, one}
 use Rattle.idset.specs.declared.IdSet.{IdSet}
+use Rattle.idset.specs.declared.Marks.{Marks}
 
 -- binary digit k of n, the lowest at k = 0
 unfoldable pub digit : ℕ → ℕ → Bool
@@ -84,6 +85,13 @@ within_of s a = all_below 256 (λ k. not (member_of s (suc k)) || leb (suc k) a)
 unfoldable pub ids_of : (ℕ → Bool) → ℕ → ℕ → List ℕ
 ids_of p zero b = []
 ids_of p (suc n) b = when (p b) (b ∷ ids_of p n (suc b)) (ids_of p n (suc b))
+
+-- the marked places of word w at j or above, ascending; those that a walk has not come to yet
+unfoldable pub marks_from : ℕ → ℕ → List ℕ
+marks_from w j = ids_of (digit w) (64 - j) j
+
+abbrev pub marks_left : Marks → List ℕ
+marks_left m = marks_from m.word m.from
 
 -- the members above a, and all members, ascending
 unfoldable pub above : IdSet → ℕ → List ℕ

@@ -1,10 +1,11 @@
 // A set of buffer ids 1 to 256 as four words of marks: bit (id - 1) % 64 of word (id - 1) / 64 is set exactly when id is a member.
 // The contracts say each result by membership: `member_of s b`, and `set_of p`, the set of the ids that p holds of.
-// `larger` and `next_mark` alone go by words.
+// `larger`, `next_mark` and `Marks` alone go by words.
 #![tactic(auto)]
 
 ghost use Rattle.std.specs.Prelude.{◌≡◌, ◌-◌, ◌^◌, ◌<◌, ltb, IfSome};
-ghost use Rattle.idset.specs.Members.{set_in, MarksAlone, member_of, no_ids, with_of, without_of, size_of, place_of, next_mark, within_of, larger_of};
+ghost use Rattle.std.specs.Iterator.{YieldsFirst, item_count};
+ghost use Rattle.idset.specs.Members.{set_in, MarksAlone, member_of, no_ids, with_of, without_of, size_of, place_of, next_mark, marks_from, marks_left, within_of, larger_of};
 
 #[derive(Clone, Copy, Debug, PartialEq, Eq)]
 pub struct IdSet {
@@ -49,6 +50,36 @@ pub fn next_mark(word: u64, from: u32) -> Option<u32>
         return None;
     }
     Some(from + rest.trailing_zeros())
+}
+
+// A walk over the marked places of a word, ascending, that goes on at `from`.
+#[derive(Clone, Debug, Drop)]
+pub struct Marks {
+    word: u64,
+    from: u32,
+}
+
+impl Iterator for Marks {
+    type Item = u32;
+
+    ghost next_gives = { YieldsFirst marks_left };
+
+    ghost remaining = { item_count marks_left };
+
+    fn next(&mut self) -> Option<u32> {
+        let mark = next_mark(self.word, self.from)?;
+        self.from = mark + 1;
+        Some(mark)
+    }
+}
+
+impl Marks {
+    // The walk over all marked places of the word.
+    pub fn of(word: u64) -> Marks
+        ensures { marks_left result ≡ marks_from word 0 }
+    {
+        Marks { word, from: 0 }
+    }
 }
 
 // Marks id in the words of a set, and answers whether it was marked. 0 and what is above 256 change nothing.

@@ -59,23 +59,19 @@ module _ (f : ℕ → Check) where
   pub first_stop : (k n number place : ℕ) → first_below k f ≡ fine → f k ≡ refuse number place → k < n → refuse number place ≡ first_below n f
   first_stop k n number place h e l = sym (stops n k number place h e l)
 
-  pub first_done : (k n : ℕ) → first_below k f ≡ fine → k ≡ n → fine ≡ first_below n f
-  first_done k n h e = cc
+-- ---- a rule's test of n entries: none fails it, or entry k is the first that does
 
--- ---- the same of a rule's test: what the code found at entry k
-
-module _ (rule : ℕ) (place : ℕ → ℕ) (test : ℕ → Bool) where
+module _ (rule : ℕ) (place : ℕ → ℕ) (test : ℕ → Bool) (n : ℕ) where
   abbrev asks : ℕ → Check
   asks k = keeps rule (place k) (test k)
 
-  module _ (k : ℕ) (passed : Bool) (so_far : first_below k asks ≡ fine) (e : passed ≡ test k) where
-    pub search_again : passed ≡ true → first_below (k + 1) asks ≡ fine
-    unfolding unless
-    search_again q = first_again asks k so_far (rw (sym e ∙ q))
+  pub all_pass : ((j : ℕ) → j < n → true ≡ test j) → fine ≡ first_below n asks
+  unfolding unless
+  all_pass h = sym (all_fine asks n (λ j l. rw (sym (h j l))))
 
-    pub search_stop : (n : ℕ) → k < n → passed ≡ false → refuse rule (place k) ≡ first_below n asks
-    unfolding unless
-    search_stop n l q = first_stop asks k n rule (place k) so_far (rw (sym e ∙ q)) l
+  pub fails_first : (k : ℕ) → k < n → ((j : ℕ) → j < k → true ≡ test j) → false ≡ test k → refuse rule (place k) ≡ first_below n asks
+  unfolding unless
+  fails_first k l h e = first_stop asks k n rule (place k) (all_fine asks k (λ j b. rw (sym (h j b)))) (rw (sym e)) l
 
 -- ---- nothing is refused exactly when every test holds
 

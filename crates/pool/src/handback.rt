@@ -5,7 +5,7 @@ ghost use Rattle.basics.specs.Below.{all_below, table};
 ghost use Rattle.idset.specs.Members.{member_of, size_of};
 ghost use Rattle.pool.specs.Steps.{handed};
 
-use idset::{IdSet, next_mark};
+use idset::{IdSet, Marks};
 
 // Whether every member is leaving. A walk over a set holds one word at a time, and goes from mark to mark in it.
 pub(crate) fn all_leaving(s: IdSet, states: &[u8; 256]) -> bool
@@ -13,10 +13,8 @@ pub(crate) fn all_leaving(s: IdSet, states: &[u8; 256]) -> bool
 {
     let mut ok = true;
     for (i, word) in s.words.iter().enumerate() {
-        let mut from = 0;
-        while let Some(mark) = next_mark(*word, from) {
+        for mark in Marks::of(*word) {
             ok &= states[64 * i + mark as usize] == 2;
-            from = mark + 1;
         }
     }
     ok
@@ -31,13 +29,11 @@ pub(crate) fn hand(s: IdSet, states: &mut [u8; 256], out: &mut [u32])
 {
     let mut n = 0;
     for (i, word) in s.words.iter().enumerate() {
-        let mut from = 0;
-        while let Some(mark) = next_mark(*word, from) {
+        for mark in Marks::of(*word) {
             let k = 64 * i + mark as usize;
             states[k] = 0;
             out[n] = (k + 1) as u32;
             n += 1;
-            from = mark + 1;
         }
     }
 }

@@ -16,10 +16,11 @@ pub(crate) fn search<F: Fn(usize) -> bool>(
     requires few { first + n ≤ 257 }
     ensures { Lowest (F.post passes) n (number_of rule) first (verdict result) }
 {
-    for k in 0..n {
-        if !passes(k) {
-            return Err(rule.at(first + k));
-        }
+    let breaks = |k: &usize| -> bool
+        requires { F.pre passes k.now }
+    { !passes(*k) };
+    match (0..n).find(breaks) {
+        Some(k) => Err(rule.at(first + k)),
+        None => Ok(()),
     }
-    Ok(())
 }

@@ -1,6 +1,6 @@
 -- The trailing zeros of what is left after the shift.
 use Rattle.std.proofs.Common.{rules}
-use Rattle.idset.proofs.Marks.{next_past, next_none, next_some}
+use Rattle.idset.proofs.NextMark.{next_past, next_none, next_some}
 use Rattle.idset.proofs.next_mark.Goals as goal
 
 pub returns-then-from-ge64 : goal.returns-then-from-ge64

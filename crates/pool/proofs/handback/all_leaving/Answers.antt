@@ -1,7 +1,7 @@
--- `pool::handback::all_leaving` meets its contract: each search of a word comes to a member or to the word's end. Assumes nothing.
+-- `pool::handback::all_leaving` meets its contract: the walk over a word comes to each member in it. Assumes nothing.
 use Rattle.std.proofs.Common.{◌≡◌, ◌+◌, ◌*◌, sym, ◌∙◌, arith, rules}
 use Rattle.basics.proofs.All.{all_none}
-use Rattle.idset.proofs.Listed.{mark_met, marks_passed}
+use Rattle.idset.proofs.Walk.{mark_first, marks_done}
 use Rattle.pool.proofs.Handed.{leaves_passed, leaves_met}
 use Rattle.pool.proofs.handback.all_leaving.Goals as goal
 
@@ -9,21 +9,18 @@ pub loop-i-init : goal.loop-i-init
 loop-i-init c = all_none _
 
 pub bounds-states-i : goal.bounds-states-i
-bounds-states-i c = (mark_met c.args.s c.loop-i.i c.loop-mark.from (search rules) (sym c.in-Some.is ∙ c.next_mark.ensures)).2.top
-
-pub overflow_add-from : goal.overflow_add-from
-overflow_add-from c = let below = (mark_met c.args.s c.loop-i.i c.loop-mark.from (search rules) (sym c.in-Some.is ∙ c.next_mark.ensures)).0 in search rules
-
-pub loop-mark-smaller : goal.loop-mark-smaller
-loop-mark-smaller c = let up = (mark_met c.args.s c.loop-i.i c.loop-mark.from (search rules) (sym c.in-Some.is ∙ c.next_mark.ensures)).1.up in let below = (mark_met c.args.s c.loop-i.i c.loop-mark.from (search rules) (sym c.in-Some.is ∙ c.next_mark.ensures)).0 in omega arith
+bounds-states-i c =
+    let (from, _, left, _) = c.loop-mark.invariant.2 in
+    (mark_first c.args.s c.loop-i.i from (search rules) (sym left ∙ c.in-Some.ensures.steps)).2.top
 
 pub loop-mark-preserved : goal.loop-mark-preserved
 loop-mark-preserved c =
-    let m = mark_met c.args.s c.loop-i.i c.loop-mark.from (search rules) (sym c.in-Some.is ∙ c.next_mark.ensures) in
-    let r = c.in-Some.mark in
-    let q : 64 * c.loop-i.i + (r + 1) ≡ 64 * c.loop-i.i + r + 1 = omega arith in
-    (omega (arith, m.0), rw q (leaves_met c.args.states.now m.2 (leaves_passed c.args.states.now m.1 c.loop-mark.invariant.1)))
+    let (from, _, left, so_far) = c.loop-mark.invariant.2 in
+    let (below, passed, met, rest) = mark_first c.args.s c.loop-i.i from (search rules) (sym left ∙ c.in-Some.ensures.steps) in
+    let q : 64 * c.loop-i.i + (c.in-Some.mark + 1) ≡ 64 * c.loop-i.i + c.in-Some.mark + 1 = omega arith in
+    (tt, tt, (c.in-Some.mark + 1, omega (arith, below), rest, rw q (leaves_met c.args.states.now met (leaves_passed c.args.states.now passed so_far))))
 
 pub loop-i-preserved : goal.loop-i-preserved
 loop-i-preserved c =
-    leaves_passed c.args.states.now (marks_passed c.args.s c.loop-i.i c.loop-mark.from (search rules) c.loop-mark.invariant.0 (sym c.in_default.is ∙ c.next_mark.ensures)) c.loop-mark.invariant.1
+    let (from, top, left, so_far) = c.loop-mark.invariant.2 in
+    leaves_passed c.args.states.now (marks_done c.args.s c.loop-i.i from (search rules) top (sym left ∙ c.in-None.ensures.steps.0)) so_far
