@@ -23,8 +23,8 @@ pub struct Turn {
 
 // What a call came to, printed with the list that it was lent. Put in its callers, so that no record is copied for it.
 #[inline(always)]
-fn tell(done: Outcome, list: &[u32], number: usize, out: &mut [u8]) -> Turn
-    requires { (5500 ≤ length out.old) × (length list.now ≤ 256) }
+fn tell(done: Outcome, list: &[u32], number: usize, out: &mut [u8; 8192]) -> Turn
+    requires { length list.now ≤ 256 }
     ensures { Shows (says number (told done) list.now) result out.old out.new }
 {
     let written = printed::put_line(out, number, done.answer, list);
@@ -34,8 +34,7 @@ fn tell(done: Outcome, list: &[u32], number: usize, out: &mut [u8]) -> Turn
     }
 }
 
-fn step(pool: Pool, w: u32, number: usize, out: &mut [u8]) -> Turn
-    requires { 5500 ≤ length out.old }
+fn step(pool: Pool, w: u32, number: usize, out: &mut [u8; 8192]) -> Turn
     ensures { Shows (turn_of (calls (advancing w (replicate 256 0))) number pool) result out.old out.new }
 {
     let mut ids = [0u32; 256];
@@ -44,8 +43,8 @@ fn step(pool: Pool, w: u32, number: usize, out: &mut [u8]) -> Turn
 }
 
 // The line's numbers are the worker and the ids.
-fn give(text: &[u8], place: usize, pool: Pool, w: u32, number: usize, out: &mut [u8]) -> Turn
-    requires { (5500 ≤ length out.old) × (length text.now ≤ 16384) × (place ≤ length text.now) × (1 ≤ length (numbers_at text.now place)) }
+fn give(text: &[u8], place: usize, pool: Pool, w: u32, number: usize, out: &mut [u8; 8192]) -> Turn
+    requires { (length text.now ≤ 16384) × (place ≤ length text.now) × (1 ≤ length (numbers_at text.now place)) }
     ensures { Shows (turn_of (calls (giving_up w (drop 1 (numbers_at text.now place)))) number pool) result out.old out.new }
 {
     let mut numbers = [0u32; 8192];

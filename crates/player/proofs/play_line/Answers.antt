@@ -1,5 +1,5 @@
 -- `play_line` meets its contract: what a line does decides what is printed of it.
-use Rattle.std.proofs.Common.{◌≡◌, Some, refl, ap, sym, ◌∙◌, inl, inr, rules}
+use Rattle.std.proofs.Common.{◌≡◌, Some, refl, ap, sym, ◌∙◌, inl, inr}
 use Rattle.rules.specs.Calls.{call, list_of}
 use Rattle.grammar.specs.declared.Line.{Line}
 use Rattle.grammar.specs.Line.{numbers_at}
@@ -14,7 +14,7 @@ returns-then-text-gt16384 c =
     record { value = w.value; out_after = w.out_after; written_bound = w.written_bound }
 
 pub give-requires : goal.give-requires
-give-requires c = (search rules, c.if-text-gt16384.false, c.if-text-place.false, give_some _ _ _ (sym c.line_at.ensures ∙ (c.in-Some.is ∙ ap Some c.in-Give.is)))
+give-requires c = (c.if-text-gt16384.false, c.if-text-place.false, give_some _ _ _ (sym c.line_at.ensures ∙ (c.in-Some.is ∙ ap Some c.in-Give.is)))
 
 pub returns-in-Make : goal.returns-in-Make
 unfolding call list_of
