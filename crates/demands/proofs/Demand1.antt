@@ -24,6 +24,7 @@ nothing_asked =
       leaving_count = λ p. tt;
       audit = λ p. tt;
       number = λ r. tt;
+      from = λ r. tt;
     }
 
 pub demand_1_lem : Demand1
@@ -43,4 +44,5 @@ demand_1_lem =
       one_test = λ p u v x y. same_verdict u v (x.1 ∙ sym y.1);
       one_blank = λ w g b p q x y. x.1 ∙ sym y.1;
       one_number = λ r m n x y. x.1 ∙ sym y.1;
+      one_refused = λ r a b x y. x.1 ∙ sym y.1;
     }

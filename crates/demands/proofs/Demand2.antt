@@ -3,7 +3,7 @@ use mathlib.Core.Path.{◌≡◌, ap, ◌∙◌, subst⁻¹}
 use mathlib.Core.Bool.{Bool, true, false}
 use Prim.Native.Nat.{◌-◌}
 use Rattle.pool.specs.declared.Pool.{Pool}
-use Rattle.pool.specs.Answers.{Told}
+use Rattle.pool.specs.Answers.{Told, said}
 use Rattle.pool.specs.Sound.{sound_of}
 use Rattle.pool.specs.Make.{Fresh}
 use Rattle.rules.specs.Calls.{advancing}
@@ -31,6 +31,7 @@ demand_2_lem =
       test = λ p t h. h.1;
       counts_alone = λ w g b p h. h.1;
       number = λ r n h. h.1;
+      as_answer = λ r a h. ap said h.1;
       made = λ w g b r m range.
           let made = made_fresh.made_in_range w g b range in
           let pool = ap (λ (t : Told). t.pool) m.1 in

@@ -11,7 +11,7 @@ use Rattle.pool.specs.declared.Refusal.{Refusal}
 use Rattle.pool.specs.declared.Refused.{Refused}
 use Rattle.pool.specs.declared.Answer.{Answer}
 use Rattle.pool.specs.declared.Outcome.{Outcome}
-use Rattle.demands.specs.Promises.{MakePre, MakePost, BlankPre, BlankPost, SoundnessPre, SoundnessPost, HirePre, HirePost, FirePre, FirePost, PostPre, PostPost, GiveUpPre, GiveUpPost, TakePre, TakePost, AskPre, AskPost, AdvancePre, AdvancePost, SetSizePre, SetSizePost, LeavingCountPre, LeavingCountPost, AuditPre, AuditPost, NumberPre, NumberPost}
+use Rattle.demands.specs.Promises.{MakePre, MakePost, BlankPre, BlankPost, SoundnessPre, SoundnessPost, HirePre, HirePost, FirePre, FirePost, PostPre, PostPost, GiveUpPre, GiveUpPost, TakePre, TakePost, AskPre, AskPost, AdvancePre, AdvancePost, SetSizePre, SetSizePost, LeavingCountPre, LeavingCountPost, AuditPre, AuditPost, NumberPre, NumberPost, FromPre, FromPost}
 use Rattle.rules.specs.Calls.{Call, hiring, firing, posting, giving_up, taking, asking, advancing}
 
 -- ---- the numbers that a call names
@@ -82,6 +82,10 @@ Blanks w g b p = Promised (BlankPost tt) (w, (g, (b, tt))) p
 abbrev pub Numbers : Refusal → ℕ → Type 0
 Numbers r n = Promised (NumberPost tt) (r, tt) n
 
+-- what a check found, as an answer
+abbrev pub Becomes : Refused → Answer → Type 0
+Becomes r a = Promised (FromPost tt) (r, tt) a
+
 -- ---- what is asked of the caller
 
 -- of any arguments, each function's contract asks nothing that does not hold
@@ -100,3 +104,4 @@ pub record NothingAsked : Type 0 where
   pub leaving_count : (p : Pool) → LeavingCountPre tt (p, tt)
   pub audit : (p : Pool) → AuditPre tt (p, tt)
   pub number : (r : Refusal) → NumberPre tt (r, tt)
+  pub from : (r : Refused) → FromPre tt (r, tt)

@@ -31,7 +31,7 @@ use Rattle.schedule.specs.Read.{calls, read_of}
 use Rattle.schedule.specs.Examples.{Examples}
 use Rattle.player.specs.Transcript.{unrolled, printed_from, transcript}
 use Rattle.demands.specs.Schedules.{Prints, NothingAskedToPlay}
-use Rattle.demands.specs.Allowed.{worker, Allows, Makes, Question, set_size, leaving_count, audit, Answers, Tests, Blanks, Numbers, NothingAsked}
+use Rattle.demands.specs.Allowed.{worker, Allows, Makes, Question, set_size, leaving_count, audit, Answers, Tests, Blanks, Numbers, Becomes, NothingAsked}
 use Rattle.demands.specs.Runs.{Ran, FromMaking, IsRun}
 
 -- ---- 1: any record, any arguments; a refusal changes nothing; the promise determines the result
@@ -49,6 +49,7 @@ pub record Demand1 : Type 0 where
   pub one_test : (p : Pool) (u v : Result ⊤ Refused) → Tests p u → Tests p v → u ≡ v
   pub one_blank : (w g b : ℕ) (p q : Pool) → Blanks w g b p → Blanks w g b q → p ≡ q
   pub one_number : (r : Refusal) (m n : ℕ) → Numbers r m → Numbers r n → m ≡ n
+  pub one_refused : (r : Refused) (a b : Answer) → Becomes r a → Becomes r b → a ≡ b
 
 -- ---- 2: each result is the paper's step
 
@@ -65,6 +66,7 @@ pub record Demand2 : Type 0 where
   pub test : (p : Pool) (v : Result ⊤ Refused) → Tests p v → verdict v ≡ sound_check p
   pub counts_alone : (w g b : ℕ) (p : Pool) → Blanks w g b p → p ≡ blank w g b
   pub number : (r : Refusal) (n : ℕ) → Numbers r n → n ≡ number_of r
+  pub as_answer : (r : Refused) (a : Answer) → Becomes r a → said a ≡ refused (number_of r.refusal) r.place
   -- a pool that is made is fresh and sound; out of range none is made, and the record handed back is all zero and not sound
   pub made : (w g b : ℕ) (r : Outcome) → Makes w g b r → in_range w g b ≡ true → (said r.answer ≡ accepted) × Fresh w g b r.pool × (sound_of r.pool ≡ true)
   pub not_made : (w g b : ℕ) (r : Outcome) → Makes w g b r → in_range w g b ≡ false → (said r.answer ≡ refused 1 0) × Fresh 0 0 0 r.pool × (sound_of r.pool ≡ false)

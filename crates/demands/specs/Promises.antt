@@ -22,6 +22,7 @@ use Rattle.pool.specs.contracts.Pool.set_size as set_size
 use Rattle.pool.specs.contracts.Pool.leaving_count as leaving_count
 use Rattle.pool.specs.contracts.Pool.audit as audit
 use Rattle.pool.specs.contracts.Refusal.number as number
+use Rattle.pool.specs.contracts.answers.AnswerFromRefused.from as from
 use Rattle.schedule.specs.contracts.unroll as unroll
 use Rattle.player.specs.contracts.play_line as play_line
 use Rattle.player.specs.contracts.put_read as put_read
@@ -126,6 +127,12 @@ NumberPre κs a = none {P = λ w. (number.clauses w.𝓛 w.𝓜.mem w.𝓡.retur
 
 abbrev pub NumberPost : (κs : Lfts 0) → Args number.signature κs → Res number.signature κs → AtExit number.ended κs → Type 0
 NumberPost κs a r at_exit = one {P = λ w. (number.clauses w.𝓛 w.𝓜.mem w.𝓡.returns κs a).ensures tt r at_exit} (λ w. refl)
+
+abbrev pub FromPre : (κs : Lfts 0) → Args from.signature κs → Type 0
+FromPre κs a = none {P = λ w. (from.clauses w.𝓛 w.𝓜.mem w.𝓡.returns κs a).requires tt} (λ w. refl)
+
+abbrev pub FromPost : (κs : Lfts 0) → Args from.signature κs → Res from.signature κs → AtExit from.ended κs → Type 0
+FromPost κs a r at_exit = one {P = λ w. (from.clauses w.𝓛 w.𝓜.mem w.𝓡.returns κs a).ensures tt r at_exit} (λ w. refl)
 
 -- ---- the reader and the player of schedules
 
