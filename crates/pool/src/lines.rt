@@ -1,4 +1,5 @@
 // The table of labels, a method for each line, on the record where it stands. k is the worker's entry.
+// Kept: what a line at a guard relies on, `Ready`, is asked of the record at each, and is in no type, since it speaks of one worker of a record that is sound.
 ghost use Rattle.std.specs.Prelude.{◌≡◌, ◌+◌, ◌<◌, eqb, length, OnOk, OnErr};
 ghost use Rattle.basics.specs.Pick.{when};
 ghost use Rattle.pool.specs.Answers.{said, answering, after_check, verdict, fine, refuse};
