@@ -9,7 +9,7 @@ use std::io;
 const CAPACITY: usize = 65536;
 
 // What is read and not yet handed out stands in the buffer, from `start` up to `end`.
-// Kept: no `BufReader`, which reads again after a signal, where this one has ended.
+// Kept: no `BufReader`, which takes heap, and reads again after a signal, where this one has ended.
 #[derive(Drop)]
 pub struct Lines<R> {
     source: R,

@@ -6,7 +6,7 @@ use arrayvec::ArrayVec;
 pub type Numbers = ArrayVec<u32, 600>;
 
 // At least one digit and nothing else, and at most 4294967295. `parse` would take a sign too.
-// Kept: not `grammar`'s reading, which refuses zeros in front, and on which no program stands that is compared with the second one.
+// Kept: not `grammar`'s reading, which refuses zeros in front; and wrong engines are tried with the engine's crates and this one alone (tools/faults).
 fn number(digits: &[u8]) -> Option<u32> {
     if digits.is_empty() {
         return None;

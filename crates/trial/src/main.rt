@@ -20,7 +20,7 @@ use std::fmt::Write;
 use std::{fmt, io};
 
 // A result is shorter than half of what the output holds, so that is written out when it is half full.
-// Kept: no `BufWriter`, which writes once more when it is dropped after a write that failed.
+// Kept: no `BufWriter`, which takes heap, and writes once more when it is dropped after a write that failed.
 const HALF: usize = 32768;
 
 // The current record, the lent list, how many calls were made, the results that are not yet written, and room for the numbers of a line.
