@@ -6,7 +6,7 @@ ghost use Rattle.std.specs.List.{flat_map};
 ghost use Rattle.tables.specs.Write.{write_at};
 ghost use Rattle.pool.specs.Answers.{said};
 ghost use Rattle.printed.specs.Printed.{decimal, spaced, in_words, line_for};
-ghost use Rattle.printed.specs.Page.{HasRoom, Wrote};
+ghost use Rattle.printed.specs.Page.{written_in, Starts, HasRoom, Wrote};
 
 use pool::Answer;
 
@@ -20,16 +20,14 @@ pub struct Page<'a> {
 
 impl<'a> Page<'a> {
     pub fn new(bytes: &'a mut [u8]) -> Page<'a>
-        ensures same_reference { result.bytes.ghost_name ≡ bytes.entry.ghost_name }
-        ensures bytes { result.bytes.now ≡ bytes.old }
-        ensures at { result.at ≡ 0 }
+        ensures { Starts result bytes.entry }
     {
         Page { bytes, at: 0 }
     }
 
     // How many bytes are written.
     pub fn written(&self) -> usize
-        ensures { result ≡ self.now.at }
+        ensures { result ≡ written_in self.now }
     {
         self.at
     }
