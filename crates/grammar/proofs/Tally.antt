@@ -1,11 +1,30 @@
 -- Laws of a line's words as numbers: what the loop over them goes by. Assumes nothing.
-use Rattle.std.proofs.Common.{◌≡◌, ℕ, ◌+◌, ◌≤◌, ◌<◌, List, [], ◌∷◌, length, get_or, drop, set, Result, Ok, Err, Some, None, ap, sym, ◌∙◌, arith}
-use Rattle.std.proofs.lemmas.List.{drop_more, drop_all}
+use Rattle.std.proofs.Common.{◌≡◌, ℕ, ◌+◌, ◌≤◌, ◌<◌, List, [], ◌∷◌, length, get_or, drop, set, eqb, Option, Result, Ok, Err, Some, None, ap, sym, ◌∙◌, arith}
+use Rattle.std.proofs.lemmas.Iterator.{YieldsList}
+use Rattle.std.proofs.lemmas.List.{drop_more, drop_all, length-drop}
+use Rattle.std.proofs.lemmas.List.Splits.{length-slice_split}
+use Rattle.std.proofs.lemmas.List.Sums.{count_by-le-length}
+use Rattle.std.specs.List.{slice_split}
 use Rattle.basics.specs.Pick.{when}
 use Rattle.tables.specs.Write.{write_at}
 use Rattle.tables.proofs.Laws.{write_one}
 use Rattle.tables.proofs.Left.{Left, left_first_lem, left_on, left_done}
-use Rattle.grammar.specs.Words.{number_of, numbers_of, all_numbers, tally}
+use Rattle.grammar.specs.Words.{words, number_of, numbers_of, all_numbers, tally}
+
+-- a line has a first word
+pub some_word : (l : List ℕ) → 0 < length (words l)
+unfolding words
+some_word l = omega (arith, length-slice_split (λ b. eqb b 32) l)
+
+pub few_words : (l : List ℕ) → length (drop 1 (words l)) ≤ length l
+unfolding words
+few_words l = omega (arith, length-drop 1 (slice_split (λ b. eqb b 32) l), length-slice_split (λ b. eqb b 32) l, count_by-le-length (λ b. eqb b 32) l)
+
+-- what an iterator yields after its first item
+pub after_first : {S A B : Type 0} {steps : S → Option A → S → Type 0} {v : A → B} {s t : S} (ys : List B) (r : Option A) → YieldsList steps v s ys → 0 < length ys → steps s r t → YieldsList steps v t (drop 1 ys)
+after_first [] r e h x = absurd (omega arith)
+after_first (y ∷ ys) None e h x = absurd (e.runs.0 _ x)
+after_first (y ∷ ys) (Some i) e h x = record { runs = (e.runs.1 i _ x).1 }
 
 -- the words from the n-th on, after n numbers
 abbrev pub tally_from : ℕ → List (List ℕ) → Result ℕ ℕ

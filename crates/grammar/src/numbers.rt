@@ -26,8 +26,11 @@ pub fn put_numbers(line: &[u8], list: &mut [u32]) -> Result<usize, usize>
     ensures value { result ≡ tally (drop 1 (words line.now)) }
     ensures list_after { list.new ≡ write_at list.old 0 (numbers_of (drop 1 (words line.now))) }
 {
+    let mut words = line.split(|b| *b == b' ');
+    // Not by `skip`, which asks at each word whether the first is behind it.
+    words.next();
     let mut n = 0;
-    for word in line.split(|b| *b == b' ').skip(1) {
+    for word in words {
         let Some(v) = number(word) else {
             return Err(n);
         };
